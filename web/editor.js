@@ -28,22 +28,29 @@ const lineStartsOf = (text) => {
   return starts;
 };
 
-/** The dialog in which a program is written. */
+/* How far a line is indented by Tab, and behind a label. */
+const INDENT = "    ";
+
+/** The panel in which a program is written, in the place of the listing. */
 class EditorView {
   constructor(session) {
     this.session = session;
+    // the text, which a field gives with other ends of lines than a file may have
+    this.text = "";
+    this.onChange = () => {};
     this.mistakes = [];
     this.starts = [0];
     this.colouredLines = [0, 0];
     this.blocks = ["above", "in-view", "below"].map((name) => make("div", name));
     $("colours").append(...this.blocks);
     for (const [id, name] of Object.entries(LANGUAGES)) $("language").append(new Option(name, id));
-    $("text").addEventListener("input", () => this.changed());
+    $("text").addEventListener("input", () => this.change());
+    $("text").addEventListener("keydown", (event) => this.press(event));
     $("text").addEventListener("scroll", () => this.follow());
     new ResizeObserver(() => this.follow()).observe($("text"));
     $("language").addEventListener("change", () => { this.isChosen = true; });
-    for (const id of ["language", "base", "size"]) {
-      $(id).addEventListener("change", () => this.changed());
+    for (const id of ["language", "base", "size", "stack"]) {
+      $(id).addEventListener("change", () => this.change());
     }
     $("mistakes").addEventListener("click", ({ target }) => {
       if (target.dataset.at) this.goTo(Number(target.dataset.at));
@@ -54,19 +61,62 @@ class EditorView {
     return $("language").value;
   }
 
-  open({ text, language, machine }) {
-    $("text").value = text;
+  get isOpen() {
+    return !$("editor").hidden;
+  }
+
+  /** Whether the text is another than that of the program that is open. */
+  get isChanged() {
+    const { text, language } = this.session;
+    return this.text !== text || this.language !== language;
+  }
+
+  /** Takes up the program that was just opened. */
+  fill() {
+    const { text, language } = this.session;
+    if (this.text !== text) {
+      this.text = $("text").value = text;
+      $("text").setSelectionRange(0, 0);
+      $("text").scrollTop = $("text").scrollLeft = 0;
+    }
     $("language").value = language;
     this.isChosen = false;
+    this.fillMemory();
+    setText($("mistake"), "");
+    if (this.isOpen) this.changed();
+  }
+
+  /** Takes up the memory of the program that is open. */
+  fillMemory() {
+    const { machine } = this.session;
     $("base").value = hex(machine.kit.base);
     $("size").value = machine.kit.size;
     $("stack").checked = machine.hasStack;
-    setText($("mistake"), "");
-    $("editor").showModal();
-    $("text").setSelectionRange(0, 0);
-    $("text").scrollTop = $("text").scrollLeft = 0;
+  }
+
+  /** Has the editor in the place of the listing. */
+  open() {
+    if (this.isOpen) return;
+    $("reading").hidden = true;
+    $("editor").hidden = false;
+    document.body.classList.add("editing");
     this.changed();
-    this.showMistakes();
+  }
+
+  /** Has the listing again. What stands in the editor stays. */
+  close() {
+    $("editor").hidden = true;
+    $("reading").hidden = false;
+    document.body.classList.remove("editing");
+    setText($("mistake"), "");
+  }
+
+  /* The text was changed by hand, or what it is read for. */
+  change() {
+    this.text = $("text").value;
+    setText($("mistake"), "");
+    this.changed();
+    this.onChange();
   }
 
   /* Shows a text that was changed. Its mistakes are marked when it is read. */
@@ -76,6 +126,57 @@ class EditorView {
     this.readLater();
   }
 
+  /* ---- keys */
+
+  press(event) {
+    const { key, shiftKey, ctrlKey, altKey, metaKey } = event;
+    if (ctrlKey || altKey || metaKey || event.isComposing) return;
+    if (key === "Tab") this.indent(shiftKey);
+    else if (key === "Enter") this.breakLine();
+    else return;
+    event.preventDefault();
+  }
+
+  /* Puts a text in the place of what is between two places, so that it can be undone. */
+  put(text, from, to) {
+    $("text").setSelectionRange(from, to);
+    if (document.execCommand("insertText", false, text)) return;
+    $("text").setRangeText(text, from, to, "end");
+    this.change();
+  }
+
+  /* Begins a line as far in as the one before, and behind a label alone further in. */
+  breakLine() {
+    const { value, selectionStart, selectionEnd } = $("text");
+    const line = value.slice(value.lastIndexOf("\n", selectionStart - 1) + 1, selectionStart);
+    const [blanks] = /^[ \t]*/.exec(line);
+    const isLabel = blanks === "" && /^[\w.$]+:\s*(#.*)?$/.test(line);
+    this.put(`\n${isLabel ? INDENT : blanks}`, selectionStart, selectionEnd);
+  }
+
+  /* Moves the lines of the selection in or out. Without one it adds blanks up to the next stop. */
+  indent(isOut) {
+    const { value, selectionStart, selectionEnd } = $("text");
+    const from = value.lastIndexOf("\n", selectionStart - 1) + 1;
+    if (selectionStart === selectionEnd && !isOut) {
+      const blanks = INDENT.length - (selectionStart - from) % INDENT.length;
+      return this.put(" ".repeat(blanks), selectionStart, selectionEnd);
+    }
+    const end = value.indexOf("\n", Math.max(selectionStart, selectionEnd - 1));
+    const to = end < 0 ? value.length : end;
+    const lines = value.slice(from, to).split("\n");
+    const moved = lines.map((line) => (isOut ? line.replace(/^( {1,4}|\t)/, "")
+      : line && INDENT + line)).join("\n");
+    if (moved === value.slice(from, to)) return undefined;
+    this.put(moved, from, to);
+    const shorter = to - from - moved.length;
+    if (selectionStart !== selectionEnd) $("text").setSelectionRange(from, from + moved.length);
+    else $("text").selectionStart = $("text").selectionEnd = Math.max(from, selectionStart - shorter);
+    return undefined;
+  }
+
+  /* ---- mistakes */
+
   /* Reads the text when nothing more was typed for a while. */
   readLater() {
     clearTimeout(this.waiting);
@@ -83,7 +184,7 @@ class EditorView {
   }
 
   read() {
-    if (!$("editor").open) return;
+    if (!this.isOpen) return;
     if ($("text").value.length <= MOST_LIVE) this.settleLanguage();
     this.mistakes = this.mistakesNow();
     this.show();
@@ -216,6 +317,14 @@ class EditorView {
       button.dataset.at = (starts[line - 1] ?? 0) + column - 1;
       return makeRow("li", [button]);
     }));
+  }
+
+  /** Goes to the first mistake of the text that was to be loaded. */
+  goToMistake() {
+    this.read();
+    const [first] = this.mistakes;
+    if (first) this.goTo((this.starts[first.line - 1] ?? 0) + first.column - 1);
+    else $("text").focus();
   }
 
   /* Puts the cursor at a place of the text. */

@@ -1,285 +1,177 @@
 "use strict";
 
-// The programs of the example menu, as words with labels and comments, or as assembly.
+// The programs of the example menu, in the order of a course.
 
-/* Of each: its name in the menu, whether it stands among those that fault, a sentence, its text,
- * and what it is read as and its memory, where they are not those of `Session.open`. */
+/* The memory and the calls of an example, where it says no other. */
+const OF_EXAMPLES = { language: "assembly", calls: "rars", size: 1 << 16, hasStack: true };
+
+/* Of each: its name in the menu, whether it stands among those that fault, a sentence, its text, and
+ * where it is other than in OF_EXAMPLES. */
 const EXAMPLES = [
   {
-    id: "three",
-    name: "Three words",
-    isFault: false,
-    about: "Two constants are added. Behind them the memory is 0, which is no instruction.",
-    text: `0x1234b137  # x2 = 0x1234b000
-0xf387e1b7  # x3 = 0xf387e000
-0x003100b3  # x1 = x2 + x3
+    id: "hello",
+    name: "Hello",
+    about: "It prints a line, and ends. Run it, or make it step by step. Edit has its text.",
+    text: `# Prints a line, and ends.
+    .data
+text:
+    .asciz "Hello\\n"
+    .text
+main:
+    la   a0, text
+    li   a7, 4              # PrintString
+    ecall
+    li   a7, 10             # Exit
+    ecall
 `,
   },
   {
     id: "sum",
     name: "Sum of a list",
-    isFault: false,
-    about: "A loop adds eight words of memory. The status is their sum.",
-    text: `start:
-0x03000513  # a0: where the list is
-0x00800593  # a1: how many words
-sum:
-0x00000613  # a2: the sum
-loop:
-0x00058c63
-0x00052683
-0x00d60633
-0x00450513
-0xfff58593
-0xfedff06f
-done:
-0x00060513  # the status is the sum
-0x05d00893  # exit
-0x00000073
-numbers:
-0x00000003
-0x00000001
-0x00000004
-0x00000001
-0x00000005
-0x00000009
-0x00000002
-0x00000006
-`,
-  },
-  {
-    id: "gcd",
-    name: "Greatest common divisor",
-    isFault: false,
-    about: "gcd(1071, 462) by Euclid's algorithm, as gcc makes it of C. The status is the divisor.",
-    text: `start:
-0x42f00513
-0x1ce00593
-0x00c000ef
-0x05d00893  # exit: the status is the divisor
-0x00000073
-gcd:
-0x00059463
-0x00008067  # return
-divide:
-0x02b577b3
-0x00058513
-0x00078593
-0xfedff06f
-`,
-  },
-  {
-    id: "port",
-    name: "A string to the port",
-    isFault: false,
-    about: "Each byte of a string is stored at 0x10000000, the port, which prints it.",
-    text: `start:
-0x10000537  # a0: the port
-0x03000593  # a1: the string
-0x010000ef
-0x00000513
-0x05d00893  # exit
-0x00000073
-put_string:
-0x0005c783
-0x00079463
-0x00008067  # return at the 0 behind the string
-put:
-0x00158593
-0x00f50023
-0xfedff06f
-text:
-0x6c6c6548  # "Hell"
-0x52202c6f  # "o, R"
-0x2d435349  # "ISC-"
-0x000a2156  # "V!.."
-`,
-  },
-  {
-    id: "console",
-    name: "A question and an answer",
-    isFault: false,
-    about: "The program writes a question, reads a line of the console, and greets.",
-    text: `start:
-0x00100513  # to the output
-0x05c00593
-0x01300613
-0x04000893  # write
-0x00000073
-0x00000513  # from the input
-0x07800593
-0x04000613
-0x03f00893  # read
-0x00000073
-0x00050413  # how many bytes came
-0x00100513
-0x07000593
-0x00700613
-0x04000893  # write
-0x00000073
-0x00100513
-0x07800593
-0x00040613
-0x00000073
-0x00000513
-0x05d00893  # exit
-0x00000073
-question:
-0x74616857  # "What"
-0x20736920  # " is "
-0x72756f79  # "your"
-0x6d616e20  # " nam"
-0x00203f65  # "e? ."
-hello:
-0x6c6c6548  # "Hell"
-0x00202c6f  # "o, ."
-name:
-`,
-  },
-  {
-    id: "fibonacci",
-    name: "Fibonacci by recursion",
-    isFault: false,
-    about: "fib(10) by calls that keep their values on the stack: look at memory around sp.",
-    text: `start:
-0x00010137  # the stack ends where the memory ends
-0x00a00513
-0x00c000ef
-0x05d00893  # exit: the status is fib(10)
-0x00000073
-fib:
-0x00200293
-0x04556063  # fib(0) = 0, fib(1) = 1
-0xff010113
-0x00112623
-0x00812423
-0x00912223
-0x00050413
-0xfff40513
-0xfe1ff0ef
-0x00050493
-0xffe40513
-0xfd5ff0ef
-0x00950533
-0x00412483
-0x00812403
-0x00c12083
-0x01010113
-small:
-0x00008067
-`,
-  },
-  {
-    id: "primes",
-    name: "Primes in C",
-    isFault: false,
-    about: "A sieve as gcc makes it of C: it ends with 168, the number of primes below 1,000.",
-    text: `start:
-0x00010137
-0x06c000ef
-0x05d00893
-0x00000073
-count_primes:
-0x00000693
-0x00000513
-0x00200793
-0x0d000713
-0x3e700813
-0x00100893
-0x3e800593
-0x00f70333
-0x00034303
-0x00031c63
-0x02f786b3
-0x00150513
-0x02d87063
-0x00078613
-0x00100693
-0x00178793
-0xfcb79ee3
-0x00068463
-0x0cc02623
-0x00008067
-0x00d70633
-0x01160023
-0x00f686b3
-0xfd5ff06f
-main:
-0xff010113
-0x00112623
-0xf99ff0ef
-0x0cc02583
-0x0bc00793
-0x01078613
-0x0d000693
-0x0007a703
-0x02e5e263
-0x00e68733
-0x00074703
-0x00071c63
-0x00478793
-0xfec794e3
-0x00c12083
-0x01010113
-0x00008067
-0xfff00513
-0xff1ff06f
-known:
-0x00000002
-0x00000003
-0x000001f3
-0x000003e5
-greatest:
-0x00000001
-is_composite:
-`,
-  },
-  {
-    id: "million",
-    name: "A million steps",
-    isFault: false,
-    about: "A loop that counts down. It can be taken back to its first state.",
-    text: `start:
-0x0007a2b7
-0x11e28293  # t0 = 499,998
-0x00000513
-0x05d00893
-loop:
-0xfff28293
-0xfe029ee3
-0x00000073  # exit
-`,
-  },
-  {
-    id: "sort",
-    name: "Sorting, in assembly",
-    isFault: false,
-    language: "assembly",
-    about: "Eight numbers are sorted by insertion, and printed. Edit shows the source.",
-    text: `# Sorts eight numbers, and prints them, a digit each.
+    about: "A loop adds the numbers of a list, and prints 31.",
+    text: `# Adds the numbers of a list, and prints their sum.
     .data
 numbers:
     .word 3, 1, 4, 1, 5, 9, 2, 6
 count = (. - numbers) / 4
-digits:
-    .space count + 1
+
+    .text
+main:
+    la   t0, numbers
+    li   t1, count
+    li   a0, 0
+loop:
+    lw   t2, 0(t0)
+    add  a0, a0, t2
+    addi t0, t0, 4
+    addi t1, t1, -1
+    bnez t1, loop
+    li   a7, 1              # PrintInt
+    ecall
+    li   a7, 10             # Exit
+    ecall
+`,
+  },
+  {
+    id: "max",
+    name: "The greatest of a list",
+    about: "Each number is compared with the greatest of those before it. It prints 42.",
+    text: `# Prints the greatest number of a list.
+    .data
+numbers:
+    .word 7, -3, 42, 19, 0, 41
+count = (. - numbers) / 4
+
+    .text
+main:
+    la   t0, numbers
+    li   t1, count - 1
+    lw   a0, 0(t0)          # the greatest one so far
+next:
+    addi t0, t0, 4
+    lw   t2, 0(t0)
+    ble  t2, a0, smaller
+    mv   a0, t2
+smaller:
+    addi t1, t1, -1
+    bnez t1, next
+    li   a7, 1              # PrintInt
+    ecall
+    li   a7, 10             # Exit
+    ecall
+`,
+  },
+  {
+    id: "length",
+    name: "Length of a string",
+    about: "A function counts the letters up to the 0 behind them.",
+    text: `# Prints how many letters a string has.
+    .data
+text:
+    .asciz "RISC-V"
+
+    .text
+main:
+    la   a0, text
+    call length
+    li   a7, 1              # PrintInt
+    ecall
+    li   a7, 10             # Exit
+    ecall
+
+# a0: the address of a string, and then how many letters it has.
+length:
+    mv   t0, a0
+letter:
+    lbu  t1, 0(t0)
+    beqz t1, end
+    addi t0, t0, 1
+    j    letter
+end:
+    sub  a0, t0, a0
+    ret
+`,
+  },
+  {
+    id: "factorial",
+    name: "Factorial by recursion",
+    about: "A function that calls itself keeps its values on the stack: look at Calls and at Memory.",
+    text: `# Prints 5!, which is 120.
+main:
+    li   a0, 5
+    call factorial
+    li   a7, 1              # PrintInt
+    ecall
+    li   a7, 10             # Exit
+    ecall
+
+# a0: a number, and then its factorial.
+factorial:
+    li   t0, 2
+    blt  a0, t0, one
+    addi sp, sp, -16
+    sw   ra, 12(sp)
+    sw   a0, 8(sp)
+    addi a0, a0, -1
+    call factorial
+    lw   t1, 8(sp)
+    mul  a0, a0, t1
+    lw   ra, 12(sp)
+    addi sp, sp, 16
+    ret
+one:
+    li   a0, 1
+    ret
+`,
+  },
+  {
+    id: "sort",
+    name: "Sorting",
+    about: "Eight numbers are sorted by insertion, and printed.",
+    text: `# Sorts eight numbers, and prints them.
+    .data
+numbers:
+    .word 3, 1, 4, 1, 5, 9, 2, 6
+count = (. - numbers) / 4
 
     .text
 main:
     la   a0, numbers
     li   a1, count
     call sort
-    la   a0, numbers
-    la   a1, digits
-    li   a2, count
-    call write_digits
-    li   a0, 1              # to the output
-    la   a1, digits
-    li   a2, count + 1
-    li   a7, 64             # write
+    la   s0, numbers
+    li   s1, count
+print:
+    lw   a0, 0(s0)
+    li   a7, 1              # PrintInt
     ecall
-    li   a0, 0
-    li   a7, 93             # exit
+    li   a0, ' '
+    li   a7, 11             # PrintChar
+    ecall
+    addi s0, s0, 4
+    addi s1, s1, -1
+    bnez s1, print
+    li   a7, 10             # Exit
     ecall
 
 # Sorts the a1 words from a0 on, by insertion.
@@ -289,51 +181,158 @@ sort:
     addi a2, a0, 4
 next:
     bgeu a2, a1, sorted
-    lw   a3, (a2)
+    lw   a3, 0(a2)
     mv   a4, a2
 shift:
     beq  a4, a0, put
     lw   a5, -4(a4)
     ble  a5, a3, put
-    sw   a5, (a4)
+    sw   a5, 0(a4)
     addi a4, a4, -4
     j    shift
 put:
-    sw   a3, (a4)
+    sw   a3, 0(a4)
     addi a2, a2, 4
     j    next
 sorted:
     ret
+`,
+  },
+  {
+    id: "list",
+    name: "A linked list",
+    about: "Each node has a number and the address of the next node; the last one has 0.",
+    text: `# Prints the numbers of a linked list. A node is a number, and the address of the next.
+    .data
+first:
+    .word 10, second
+third:
+    .word 30, 0
+second:
+    .word 20, third
 
-# Writes a digit for each of the a2 words from a0 on, to a1, and ends the line.
-write_digits:
-    lw   a3, (a0)
-    addi a3, a3, '0'
-    sb   a3, (a1)
-    addi a0, a0, 4
-    addi a1, a1, 1
-    addi a2, a2, -1
-    bnez a2, write_digits
-    li   a3, '\\n'
-    sb   a3, (a1)
-    ret
+    .text
+main:
+    la   s0, first
+node:
+    lw   a0, 0(s0)
+    li   a7, 1              # PrintInt
+    ecall
+    li   a0, '\\n'
+    li   a7, 11             # PrintChar
+    ecall
+    lw   s0, 4(s0)
+    bnez s0, node
+    li   a7, 10             # Exit
+    ecall
+`,
+  },
+  {
+    id: "question",
+    name: "A question and an answer",
+    about: "It reads numbers until one is 0, and prints their sum. Type them into the console.",
+    text: `# Reads numbers until one is 0, and prints their sum.
+    .data
+question:
+    .asciz "A number, or 0 to end: "
+answer:
+    .asciz "The sum is "
+
+    .text
+main:
+    li   s0, 0
+ask:
+    la   a0, question
+    li   a7, 4              # PrintString
+    ecall
+    li   a7, 5              # ReadInt
+    ecall
+    add  s0, s0, a0
+    bnez a0, ask
+    la   a0, answer
+    li   a7, 4
+    ecall
+    mv   a0, s0
+    li   a7, 1              # PrintInt
+    ecall
+    li   a7, 10             # Exit
+    ecall
+`,
+  },
+  {
+    id: "port",
+    name: "A string to a port",
+    about: "Each letter is stored at 0x10000000. There is no memory but a device, which prints it.",
+    text: `# Stores the letters of a string to the port of a device, which prints them.
+    .data
+text:
+    .asciz "Hello, RISC-V!\\n"
+
+    .text
+main:
+    li   t0, 0x10000000     # the port
+    la   t1, text
+put:
+    lbu  t2, 0(t1)
+    beqz t2, end
+    sb   t2, 0(t0)
+    addi t1, t1, 1
+    j    put
+end:
+    li   a7, 10             # Exit
+    ecall
+`,
+  },
+  {
+    id: "linux",
+    name: "Hello by the calls of Linux",
+    about: "The same line by write and exit, as a program of Linux prints it.",
+    calls: "linux",
+    text: `# Prints a line by the calls of Linux, and ends with status 0.
+    .data
+text:
+    .ascii "Hello\\n"
+length = . - text
+
+    .text
+_start:
+    li   a0, 1              # to the output
+    la   a1, text
+    li   a2, length
+    li   a7, 64             # write
+    ecall
+    li   a0, 0
+    li   a7, 93             # exit
+    ecall
+`,
+  },
+  {
+    id: "million",
+    name: "A million steps",
+    about: "A loop that counts down. Run back takes it back to its first state.",
+    text: `# Counts down from 500,000.
+main:
+    li   t0, 500000
+loop:
+    addi t0, t0, -1
+    bnez t0, loop
+    li   a7, 10             # Exit
+    ecall
 `,
   },
   {
     id: "convention",
     name: "A register that is lost",
-    isFault: false,
-    language: "assembly",
-    size: 1 << 20,
-    hasStack: true,
-    about: "factorial(5) comes out wrong. The remarks at the call stack tell why.",
-    text: `# The status is to be 5! % 256, and is not: factorial does not save s0.
+    about: "It prints 0 and not 120. The remarks at Calls tell why.",
+    text: `# Is to print 5!, and does not: factorial does not save s0.
 main:
     li   t0, 0              # a call may change t0
     li   a0, 5
     call factorial
     add  a0, a0, t0
-    li   a7, 93             # exit
+    li   a7, 1              # PrintInt
+    ecall
+    li   a7, 10             # Exit
     ecall
 
 # a0: a number, and then its factorial.
@@ -353,75 +352,93 @@ done:
 `,
   },
   {
-    id: "illegal",
-    name: "Illegal instruction",
-    isFault: true,
-    about: "",
-    text: `0x00100293
-0xffffffff  # no instruction
+    id: "words",
+    name: "Three words of hexadecimal digits",
+    about: "An instruction is a word of 32 bits. Behind these three a call ends the program.",
+    language: "words",
+    text: `0x1234b137  # x2 = 0x1234b000
+0xf387e1b7  # x3 = 0xf387e000
+0x003100b3  # x1 = x2 + x3
+0x00a00893  # x17 = 10, which is Exit
+0x00000073  # ecall
 `,
   },
   {
-    id: "fetch",
-    name: "Fetch outside the memory",
+    id: "recursion",
+    name: "A recursion without an end",
     isFault: true,
-    about: "",
-    text: `0x200002b7
-0x00028067  # to where there is no memory
+    text: `main:
+    addi sp, sp, -16
+    sw   ra, 12(sp)
+    call main
+`,
+  },
+  {
+    id: "exit",
+    name: "No exit",
+    isFault: true,
+    text: `main:
+    li   a0, 5
+    addi a0, a0, 1
+`,
+  },
+  {
+    id: "stack",
+    name: "A stack that was never set",
+    isFault: true,
+    hasStack: false,
+    text: `main:
+    addi sp, sp, -16
+    sw   ra, 12(sp)
 `,
   },
   {
     id: "load",
-    name: "Load outside the memory",
+    name: "A load where there is no memory",
     isFault: true,
-    about: "",
-    text: `0x200002b7
-0x0002a303
-`,
-  },
-  {
-    id: "store",
-    name: "Store outside the memory",
-    isFault: true,
-    about: "",
-    text: `0x200002b7
-0x0062a423
+    text: `main:
+    li   t0, 0x20000000
+    lw   a0, 0(t0)
 `,
   },
   {
     id: "misaligned",
-    name: "Misaligned address",
+    name: "A misaligned address",
     isFault: true,
-    about: "",
-    text: `0x10200293
-0x0002a303  # 4 bytes at an address that is no multiple of 4
+    text: `main:
+    li   t0, 0x102
+    lw   a0, 0(t0)          # 4 bytes at an address that is no multiple of 4
 `,
   },
   {
     id: "jump",
-    name: "Misaligned jump",
+    name: "A jump to where there is no memory",
     isFault: true,
-    about: "",
-    text: `0x10200067
+    text: `main:
+    li   t0, 0x20000000
+    jr   t0
+`,
+  },
+  {
+    id: "code",
+    name: "A store to an instruction",
+    isFault: true,
+    text: `main:
+    la   t0, main
+    sw   zero, 0(t0)
 `,
   },
   {
     id: "ecall",
-    name: "Unknown system call",
+    name: "A call of another system",
     isFault: true,
-    about: "",
-    text: `0x1f400893
-0x00000073
+    calls: "linux",
+    text: `main:
+    li   a0, 42
+    li   a7, 1              # PrintInt of RARS, where the calls of Linux are chosen
+    ecall
+    li   a7, 10
+    ecall
 `,
   },
-  {
-    id: "ebreak",
-    name: "ebreak",
-    isFault: true,
-    about: "",
-    text: `0x00100293
-0x00100073
-0x00200293
-`,
-  },
-];
+].map((example) => ({ isFault: false, about: "", ...OF_EXAMPLES, ...example }));

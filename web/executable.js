@@ -38,7 +38,7 @@ function isElf(bytes) {
 
 /** The program that an executable is: a text of words from the page of its lowest address on, with
  * the names of its functions as labels and `_start` at its entry, for a memory of MOST_BYTES, with
- * Linux's calls and a stack. Throws a ProgramError. */
+ * Linux's calls and a stack, and which of its words are read-only. Throws a ProgramError. */
 async function programOfElf(kit, bytes) {
   const file = await ElfFile.of(kit, bytes);
   if (file.refusal !== 0) {
@@ -60,7 +60,18 @@ async function programOfElf(kit, bytes) {
   const last = Math.max(...segments.map(({ address, fileSize }) => address + fileSize));
   const labels = labelsOfElf(file, segments, base);
   const text = textOfWords(words.subarray(0, Math.ceil((last - base) / 4)), labels);
-  return { text, language: "words", base, size: MOST_BYTES, hasStack: true, calls: "linux" };
+  const code = codeOfElf(segments, base);
+  return { text, language: "words", base, size: MOST_BYTES, hasStack: true, calls: "linux", code };
+}
+
+/* Of each word of memory whether it is executed and not written to. */
+function codeOfElf(segments, base) {
+  const code = new Uint8Array(MOST_BYTES / 4);
+  for (const { address, fileSize, flags } of segments) {
+    const isCode = (flags & IS_CODE) !== 0 && (flags & IS_WRITABLE) === 0;
+    if (isCode) code.fill(1, (address - base) >>> 2, (address - base + fileSize + 3) >>> 2);
+  }
+  return code;
 }
 
 /* What a name has to be for a label of a text of words. */

@@ -2,7 +2,7 @@
 
 // The calls that a program is in, found by the steps that it made. Nothing here knows the page.
 
-const OPCODE = { JALR: 0x67, JAL: 0x6f };
+const OPCODE = { STORE: 0x23, JALR: 0x67, JAL: 0x6f };
 
 /* The registers that hold a return address: ra, and t0 as the alternate link register. */
 const isLink = (register) => register === 1 || register === 5;
@@ -20,42 +20,43 @@ function kindOfJump(word) {
  * bytes each. A deeper recursion loses its outermost ones. */
 const FRAMES_KEPT = 1 << 16;
 
-/* Adds a frame. The outermost ones are dropped many at a time, which takes less. */
-function addFrame(frames, frame) {
-  frames.push(frame);
-  if (frames.length > 2 * FRAMES_KEPT) frames.splice(0, FRAMES_KEPT);
+/** A call that has not returned: the addresses `from` of the call, `entry` of the function, and `back`
+ * where it returns to; `sp` where it was entered; and what the convention is told by: `saved` has what
+ * registers were before the function wrote them. A frame is never changed but for `entry`, which the
+ * next step tells, so states of before share it. */
+class Frame {
+  constructor(from, entry, back, sp, isPlain, returns, saved, caller) {
+    Object.assign(this, { from, entry, back, sp, isPlain, returns, saved, caller });
+    this.depth = caller === null ? 1 : caller.depth + 1;
+  }
+
+  /** The same with what a register was, unless that is known. */
+  saving(register, value) {
+    for (let at = this.saved; at !== null; at = at.next) if (at.register === register) return this;
+    const { from, entry, back, sp, isPlain, returns, saved, caller } = this;
+    return new Frame(
+      from, entry, back, sp, isPlain, returns, { register, value, next: saved }, caller);
+  }
 }
 
-/* Calls `visit` with each kept record, oldest first: the words of memory, and its place there. */
-function eachRecord(history, visit) {
-  const { u32 } = history.kit;
-  for (let step = history.first; step < history.steps; step++) visit(u32, history.placeOf(step));
-}
-
-/** The calls that have not returned, the innermost first, by the steps whose records are kept. Of
- * each: the addresses `from` of the call, `entry` of the function, and `back` where it returns to,
- * and `sp` where it was entered. */
-function framesOf({ kit, history }) {
+/* A frame with as many callers as are kept at least. */
+function shortenedFrames(top) {
   const frames = [];
-  const withoutSp = [];
-  let sp;
-  let called = null;
-  eachRecord(history, (u32, at) => {
-    const pc = u32[at + RECORD.pc];
-    if (called !== null) called.entry = pc;
-    called = null;
-    if (u32[at + RECORD.rd] === REGISTER.SP) {
-      const before = u32[at + RECORD.rdBefore];
-      for (const frame of withoutSp.splice(0)) frame.sp = before;
-      sp = u32[at + RECORD.rdAfter];
-    }
-    const kind = kindOfJump(u32[at + RECORD.word]);
-    if (kind === "return") frames.pop();
-    if (kind !== "call") return;
-    called = { from: pc, entry: kit.pc, back: (pc + 4) % 2 ** 32, sp };
-    if (sp === undefined) withoutSp.push(called);
-    addFrame(frames, called);
-  });
-  for (const frame of withoutSp) frame.sp = kit.x[REGISTER.SP];
-  return frames.reverse();
+  for (let at = top; at !== null && frames.length <= FRAMES_KEPT; at = at.caller) frames.push(at);
+  return frames.reduceRight((caller, { from, entry, back, sp, isPlain, returns, saved }) =>
+    new Frame(from, entry, back, sp, isPlain, returns, saved, caller), null);
 }
+
+/** The calls that have not returned, the innermost first, `most` at most. */
+function framesOf(machine, most = Infinity) {
+  const frames = [];
+  let { top } = machine.convention.follow();
+  for (; top !== null && frames.length < most; top = top.caller) {
+    const { from, entry = machine.kit.pc, back, sp } = top;
+    frames.push({ from, entry, back, sp });
+  }
+  return frames;
+}
+
+/** How many calls have not returned. */
+const depthOf = (machine) => machine.convention.follow().top?.depth ?? 0;

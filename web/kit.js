@@ -1,7 +1,8 @@
 "use strict";
 
-// The proved library, crates/rrs_c, as a WebAssembly module with 64-bit addresses. This is the one
-// file that knows its calls and the layouts of its structs (crates/rrs_c/include/rrs.h).
+// The proved library, crates/rrs_c, as a WebAssembly module. Its calls take addresses of 64 bits, and
+// its memory has 32, which more browsers have. This is the one file that knows its calls and the
+// layouts of its structs (crates/rrs_c/include/rrs.h).
 
 /* Sizes and offsets in bytes, as rrs.h has them. */
 const LAYOUT = {
@@ -32,8 +33,9 @@ const LAYOUT = {
   name: { size: 20 },
 };
 
-/* The flag of a segment whose bytes are executed. */
+/* The flags of a segment whose bytes are executed, and of one that is written to. */
 const IS_CODE = 1;
+const IS_WRITABLE = 2;
 
 /* The most bytes of the name of a function that the page shows. */
 const MOST_NAME = 255;
@@ -50,8 +52,11 @@ const RECORD = wordsOf({
 });
 const RECORD_WORDS = LAYOUT.change.size / 4 + 2;
 
-/* How many records there is room for. */
-const RECORDS = (1 << 21) + 1;
+/* How many of the latest steps have a record at least, and how many of the oldest go at once where
+ * there is no more room. One record more is for the step to be made. */
+const STEPS_KEPT = 1 << 21;
+const STEPS_DROPPED = 1 << 14;
+const RECORDS = STEPS_KEPT + STEPS_DROPPED + 1;
 
 /* The kinds of a fault, and of an access, as rrs.h numbers them. */
 const FAULT = {
@@ -88,11 +93,9 @@ const NO_PROGRAM = {
   entry: 0, bytes: new Uint8Array(), statements: [], labels: [], mistakes: [],
 };
 
-
-/** Whether this browser runs modules whose addresses have 64 bits: a module with such a memory. */
-function hasMemory64() {
-  const module = [0, 0x61, 0x73, 0x6d, 1, 0, 0, 0, 5, 3, 1, 4, 1];
-  return typeof WebAssembly === "object" && WebAssembly.validate(new Uint8Array(module));
+/** Whether this browser can run the module: WebAssembly, with numbers of 64 bits. */
+function hasWebAssembly() {
+  return typeof WebAssembly === "object" && typeof BigInt64Array === "function";
 }
 
 /** Places in the memory of a module, behind what the module uses itself. */
@@ -112,7 +115,7 @@ class Places {
   /** Has the memory reach to the end of the last place. Throws a RangeError where it can't. */
   grow() {
     const short = this.next - this.memory.buffer.byteLength;
-    if (short > 0) this.memory.grow(BigInt(Math.ceil(short / PAGE_BYTES)));
+    if (short > 0) this.memory.grow(Math.ceil(short / PAGE_BYTES));
   }
 }
 

@@ -3,7 +3,10 @@
 // The machine of the page: the proved steps of the kit, there and back, and around them what serves
 // the program's calls and the port, and what counts steps.
 
-const REGISTER = { SP: 2, A0: 10, A1: 11, A2: 12, A3: 13, A4: 14, A7: 17 };
+const REGISTER = { RA: 1, SP: 2, S0: 8, A0: 10, A1: 11, A2: 12, A3: 13, A4: 14, A7: 17 };
+
+/* The word of ret, by which a function returns. */
+const RETURN_WORD = 0x00008067;
 
 /* The errors of Linux's calls. */
 const NO_SUCH_FILE = -9;
@@ -34,18 +37,22 @@ class Machine {
     this.kit = kit;
     this.terminal = new Terminal();
     this.history = new Records(kit);
+    this.convention = new Convention(this.history);
     this.environment = ENVIRONMENTS.linux;
     this.load(new Uint32Array(0), 0, PAGE_BYTES, false);
   }
 
   /** Has `size` bytes of memory from `base` on, with the words at its start, and starts `entry`
-   * bytes behind it. With a stack sp starts as the end of memory, or so many bytes below it. */
-  load(words, base, size, hasStack, entry = 0, aboveStack = 0) {
+   * bytes behind it. With a stack sp starts as the end of memory, or so many bytes below it. `code`
+   * is null, or has 1 for each word that is an instruction: these are read-only. */
+  load(words, base, size, hasStack, entry = 0, aboveStack = 0, code = null) {
     this.kit.setMemory(base, size);
     this.entry = base + entry;
     this.program = Uint32Array.from(words);
     this.hasStack = hasStack;
     this.aboveStack = aboveStack;
+    this.code = code;
+    this.stopsAtOutput = false;
     this.reset();
   }
 
@@ -68,6 +75,7 @@ class Machine {
     this.break = this.heapRange().first;
     this.terminal.reset();
     this.history.clear();
+    this.convention.clear();
   }
 
   /** How many steps were made. */
@@ -90,7 +98,11 @@ class Machine {
   step() {
     const { kit, history } = this;
     const word = kit.words[(kit.pc - kit.base) >>> 2];
+    if (word === RETURN_WORD && kit.x[REGISTER.RA] === 0 && this.code !== null) {
+      return { reason: "returned" };
+    }
     if (kit.stepNoted(history.next) === FAULT.NONE) {
+      if (this.code !== null && this.hasStoredToCode()) return this.refuseStore();
       this.keep(word);
       return null;
     }
@@ -98,6 +110,20 @@ class Machine {
     // the kit forgets the register that was the last written, also in a step that is not made
     if (end !== null) kit.undo(history.next, kit.addresses);
     return end;
+  }
+
+  /* Whether the step that was just made stored to an instruction. */
+  hasStoredToCode() {
+    const { kit: { u32, base }, history: { next }, code } = this;
+    return u32[next + RECORD.stored] > 0 && code[(u32[next + RECORD.address] - base) >>> 2] === 1;
+  }
+
+  /* Takes the step that was just made back: an end. */
+  refuseStore() {
+    const { kit, history } = this;
+    const address = kit.u32[history.next + RECORD.address];
+    kit.undo(history.next, kit.addresses);
+    return { reason: "fault", kind: FAULT.STORE, address, word: 0, isCode: true };
   }
 
   /** Whether the pc is a stop: an instruction that begins there, and is marked in `stops`. */
@@ -110,12 +136,23 @@ class Machine {
    * RUN_BYTES. `stops` has a number that is not 0 for each word to stop at; the first step is made
    * wherever the pc is. */
   run(most, stops) {
-    const { kit } = this;
+    this.convention.follow();
+    const end = this.makeSteps(most, stops);
+    this.convention.follow();
+    return end;
+  }
+
+  makeSteps(most, stops) {
+    const { kit, terminal } = this;
+    const printed = terminal.printed + terminal.lost;
     this.transferred = 0;
     for (let made = 0; made < most && this.transferred < RUN_BYTES; made++) {
       const end = this.step();
       if (end !== null) return end;
       if (this.isAtStop(stops)) return { reason: "stop", address: kit.pc };
+      if (this.stopsAtOutput && terminal.printed + terminal.lost > printed) {
+        return { reason: "output" };
+      }
     }
     return null;
   }
@@ -268,6 +305,7 @@ class Machine {
     const { kit } = this;
     this.history.addChange(kit.noteRegister(register));
     kit.x[register] = value;
+    this.convention.change(register, value);
   }
 
   /** Changes the pc. A step back gives the pc of the step in any case. */

@@ -22,15 +22,22 @@ class Page {
     this.memory = new MemoryView(session);
     this.editor = new EditorView(session);
     this.lesson = new LessonView(session);
+    this.tabs = new TabsView(() => this.render());
+    this.work = new Work(this, new Keeping(() => localStorage));
     this.views = [
       this.listing, this.registers, this.memory, new ConsoleView(session), new FramesView(session),
       new LogView(session), new CountsView(session),
     ];
+    this.wasWaiting = false;
     this.handlers = this.makeHandlers();
     this.fillMenus();
     this.listen();
     session.onChange = () => this.render();
-    session.onEnd = () => this.lesson.check();
+    session.onEnd = () => this.checkLesson();
+    this.editor.onChange = () => {
+      this.work.change();
+      this.renderChanged();
+    };
   }
 
   makeHandlers() {
@@ -38,32 +45,40 @@ class Page {
     return {
       step: () => session.step(),
       stepBack: () => session.stepBack(),
+      stepOver: () => session.stepOver(),
+      stepOut: () => session.stepOut(),
+      runToOutput: () => session.runToOutput(),
       run: () => session.run(),
       pause: () => session.pause(),
       runBack: () => session.runBack(),
       runToLine: () => session.runToLine(),
       reset: () => session.reset(),
       breakpoint: () => session.toggleBreakpoint(session.selected),
-      program: () => $("listing").focus(),
+      program: () => this.showListing(),
       slower: () => this.setSpeed(session.speed - 1),
       faster: () => this.setSpeed(session.speed + 1),
       radix: () => this.nextRadix(),
       names: () => this.setNames(session.names === NAMES.abi ? "number" : "abi"),
       change: () => this.openChange("", ""),
+      details: () => this.tabs.next(),
       unit: () => this.setUnit(this.memory.unit === 4 ? 1 : 4),
-      around: () => $("around").focus(),
-      address: () => $("address").focus(),
+      around: () => this.goToMemory("around"),
+      address: () => this.goToMemory("address"),
       memoryUp: () => this.pageMemory(-8),
       memoryDown: () => this.pageMemory(8),
       calls: () => $("calls").focus(),
       console: () => $("input").focus(),
       endInput: () => session.endInput(),
       examples: () => $("examples").focus(),
-      preset: () => $("preset").focus(),
-      edit: () => this.editor.open(session),
+      preset: () => this.goToMore("preset"),
+      edit: () => this.showEditor(),
       open: () => $("file").click(),
+      save: () => this.work.save(),
       link: () => this.showLink(),
       lesson: () => $("exercises").querySelector("[aria-current]")?.focus(),
+      check: () => this.check(),
+      hint: () => this.lesson.showHint(),
+      handIn: () => this.work.handIn(),
       closeLesson: () => this.closeLesson(),
       theme: () => this.changeTheme(),
       keys: () => this.showHelp(),
@@ -80,7 +95,9 @@ class Page {
     $("speed").append(...SPEEDS.map((speed, at) =>
       new Option(speed === Infinity ? "full" : `${speed.toLocaleString("en")}/s`, at)));
     $("speed").value = this.session.speed;
-    $("preset").append(...PRESETS.map(({ name }, at) => new Option(name, at)));
+    const other = new Option("another, as the editor says", "");
+    other.hidden = true;
+    $("preset").append(other, ...PRESETS.map(({ name }, at) => new Option(name, at)));
     $("size").append(...SIZES.map((size) => new Option(`${size / 1024} KiB`, size)));
     for (const [id, { name }] of Object.entries(ENVIRONMENTS)) {
       $("calls").append(new Option(`calls of ${name}`, id));
@@ -102,13 +119,35 @@ class Page {
   fillExamples() {
     const faults = document.createElement("optgroup");
     faults.label = "Programs that fault";
-    const other = new Option("your own", "");
+    const other = new Option(YOUR_OWN, "");
     other.hidden = true;
     $("examples").append(other);
     for (const { id, name, isFault } of EXAMPLES) {
       (isFault ? faults : $("examples")).append(new Option(name, id));
     }
     $("examples").append(faults);
+    this.fillOwn();
+  }
+
+  /** Has what is kept on this computer in the menu of examples, the latest first. */
+  fillOwn() {
+    $("own")?.remove();
+    const group = document.createElement("optgroup");
+    [group.id, group.label] = ["own", "Kept on this computer"];
+    const { keeping } = this.work;
+    for (const { id, name } of keeping.all("programs")) {
+      group.append(new Option(shortened(String(name), LABEL_SHOWN), `program ${id}`));
+    }
+    keeping.all("lessons").forEach(({ title }, at) =>
+      group.append(new Option(shortened(`Lesson: ${title}`, LABEL_SHOWN), `lesson ${at}`)));
+    if (group.children.length > 0) $("examples").append(group);
+  }
+
+  /** Has the menu of examples say that the program is one's own, and no link lead to it. */
+  nameOwn() {
+    $("examples").value = "";
+    if (!location.hash.includes("program=")) return;
+    history.replaceState(null, "", location.pathname + location.search);
   }
 
   setSpeed(speed) {
@@ -161,7 +200,7 @@ class Page {
   /* ---- what the page listens to */
 
   listen() {
-    $("examples").addEventListener("change", (event) => this.openExample(event.target.value));
+    $("examples").addEventListener("change", (event) => this.openChoice(event.target.value));
     $("preset").addEventListener("change", ({ target }) => this.takePreset(target.value));
     $("speed").addEventListener("change", (event) => this.setSpeed(Number(event.target.value)));
     $("radix").addEventListener("change", (event) => this.setRadix(event.target.value));
@@ -172,9 +211,13 @@ class Page {
     $("address").addEventListener("change", () => this.showAddress());
     $("file").addEventListener("change", (event) => this.openFiles(event.target.files));
     $("typing").addEventListener("submit", (event) => this.send(event));
-    $("editing").addEventListener("submit", (event) => {
-      event.preventDefault();
-      this.take();
+    this.listenToEditor();
+    $("first-lesson").addEventListener("click", () => saveFile(FIRST_LESSON, "lesson.txt"));
+    $("choose-calls").addEventListener("click", () => this.chooseCalls());
+    $("clear").addEventListener("click", () => $("clearing").showModal());
+    $("clear-all").addEventListener("click", () => {
+      this.work.clear();
+      $("clearing").close();
     });
     $("exercises").addEventListener("click", ({ target }) => {
       // the browser tells no change where the page has this address already
@@ -187,17 +230,46 @@ class Page {
     });
     this.registers.onChoose = (place, value) => this.openChange(place, value);
     this.memory.onChoose = (place, value) => this.openChange(place, value);
-    $("text").addEventListener("keydown", (event) => {
-      if (event.key === "Enter" && (event.ctrlKey || event.metaKey)) this.take();
-    });
     for (const button of document.querySelectorAll("[data-close]")) {
       button.addEventListener("click", () => button.closest("dialog").close());
     }
     document.addEventListener("keydown", (event) => this.press(event));
     this.listenToPointer();
+    this.listenToParts();
     window.addEventListener("resize", () => this.render());
     window.addEventListener("hashchange", () => this.openLink());
     this.listenToDrops();
+  }
+
+  listenToEditor() {
+    $("editor").addEventListener("submit", (event) => {
+      event.preventDefault();
+      this.take();
+    });
+    $("run-text").addEventListener("click", () => this.takeAndRun());
+    $("to-listing").addEventListener("click", () => this.showListing());
+    $("editor").addEventListener("keydown", (event) => {
+      const isWithControl = event.ctrlKey || event.metaKey;
+      if (event.key === "Escape") this.showListing();
+      else if (isWithControl && event.key === "Enter") this.takeAndRun();
+      else if (isWithControl && event.key === "s") this.work.save();
+      else return;
+      event.preventDefault();
+    });
+  }
+
+  /** Has the editor in the place of the listing, and goes there. */
+  showEditor() {
+    this.editor.open();
+    $("text").focus();
+  }
+
+  /** Has the listing in the place of the editor, and goes there. */
+  showListing() {
+    this.editor.close();
+    this.listing.pcShown = undefined;
+    this.render();
+    $("listing").focus();
   }
 
   /* A menu that was used by a pointer gives the keys back to the page. */
@@ -207,6 +279,25 @@ class Page {
     document.addEventListener("keydown", () => { isByPointer = false; }, true);
     document.addEventListener("change", ({ target }) => {
       if (isByPointer && target.matches(":is(header, .controls, main) select")) target.blur();
+    });
+  }
+
+  /* The parts of a narrow page, one of which is in view, and the menu of rare things, which closes
+   * when the focus or a click goes elsewhere. */
+  listenToParts() {
+    $("parts").addEventListener("click", ({ target }) => {
+      if (target.dataset.part) showPart(target.dataset.part);
+    });
+    $("main").addEventListener("scroll", markPart);
+    for (const type of ["focusin", "pointerdown"]) {
+      document.addEventListener(type, ({ target }) => {
+        if (!$("more").contains(target)) $("more").open = false;
+      });
+    }
+    $("more").addEventListener("keydown", ({ key }) => {
+      if (key !== "Escape") return;
+      $("more").open = false;
+      $("more").firstElementChild.focus();
     });
   }
 
@@ -256,6 +347,18 @@ class Page {
     if (this.session.type(`${$("input").value}\n`)) $("input").value = "";
   }
 
+  /* Goes to a field of memory. */
+  goToMemory(id) {
+    this.tabs.show("memory");
+    $(id).focus();
+  }
+
+  /* Goes to a field of the menu of rare things. */
+  goToMore(id) {
+    $("more").open = true;
+    $(id).focus();
+  }
+
   showAround(choice) {
     this.memory.around = choice;
     if (choice === "address") return this.showAddress();
@@ -302,7 +405,20 @@ class Page {
   /* ---- programs */
 
   /** Opens a program. Returns "", or why it can't be opened; then what was open stays. */
-  tryToOpen(program, example = "") {
+  tryToOpen(program, { example = "", own } = {}) {
+    this.work.keep();
+    const mistake = this.load(program, example);
+    if (mistake) return mistake;
+    this.editor.fill();
+    this.work.begin({ example, own });
+    this.renderChanged();
+    if (this.session.mistake) this.editor.open();
+    else if (this.editor.isOpen) this.editor.close();
+    return "";
+  }
+
+  /* Has a program in the machine. Returns "", or why that can't be; then what was there stays. */
+  load(program, example) {
     try {
       this.session.open(program);
     } catch (error) {
@@ -318,8 +434,8 @@ class Page {
   }
 
   /** Opens a program, or has the page say why not. */
-  open(program, example) {
-    const mistake = this.tryToOpen(program, example);
+  open(program, source) {
+    const mistake = this.tryToOpen(program, source);
     if (mistake) this.refuse(`${program.name} was not opened. ${mistake}`);
   }
 
@@ -330,24 +446,56 @@ class Page {
 
   /* Opens the program again in another memory. */
   takePreset(choice) {
-    const { name, about, text, language, calls, isDraft } = this.session;
-    const { base, size, hasStack } = PRESETS[choice];
+    const { name, about, text, language, calls, input, isDraft, machine } = this.session;
+    const { kit: { base } } = machine;
+    const { size, hasStack } = PRESETS[choice];
     const program =
-      { name, about, text, language, base, size, hasStack, calls, keepsStops: true, isDraft };
-    this.open(program, $("examples").value);
+      { name, about, text, language, base, size, hasStack, calls, input, code: machine.code,
+        keepsStops: true, isDraft };
+    const mistake = this.load(program, $("examples").value);
+    if (mistake) this.refuse(`${name} was not opened. ${mistake}`);
+    else this.editor.fillMemory();
   }
 
   /* Which of the presets the machine is, or "". */
   presetNow() {
-    const { kit: { base, size }, hasStack } = this.session.machine;
-    const at = PRESETS.findIndex((preset) =>
-      preset.base === base && preset.size === size && preset.hasStack === hasStack);
+    const { kit: { size }, hasStack } = this.session.machine;
+    const at = PRESETS.findIndex((preset) => preset.size === size && preset.hasStack === hasStack);
     return at < 0 ? "" : String(at);
   }
 
   openExample(id) {
     this.closeLesson();
-    this.open(EXAMPLES.find((example) => example.id === id), id);
+    this.open(EXAMPLES.find((example) => example.id === id), { example: id });
+  }
+
+  /* Opens what was chosen in the menu of examples. */
+  openChoice(value) {
+    const [kind, which] = value.split(" ");
+    if (kind === "program") this.openKept(which);
+    else if (kind === "lesson") this.openKeptLesson(Number(which), 1);
+    else this.openExample(value);
+  }
+
+  /** Opens a program that was kept. Answers whether it is there. */
+  openKept(id) {
+    this.work.keep();
+    const program = this.work.keeping.all("programs").find((entry) => entry.id === id);
+    if (!program) return false;
+    this.closeLesson();
+    const { name, text, language, base, size, hasStack, calls } = program;
+    this.open({ name, text, language, base, size, hasStack, calls, isDraft: true }, { own: id });
+    return true;
+  }
+
+  /** Opens a lesson that was kept, the latest of which is 0. Answers whether it is there. */
+  async openKeptLesson(at, number) {
+    this.work.keep();
+    const kept = this.work.keeping.all("lessons")[at];
+    if (!kept) return false;
+    const lesson = parseLesson(kept.text);
+    await this.openLesson(lesson, Math.min(number, lesson.exercises.length));
+    return true;
   }
 
   async openFiles(files) {
@@ -370,7 +518,8 @@ class Page {
         return this.open({ name, ...program });
       }
       const text = textOfFile(bytes, size, kit);
-      if (isLesson(text)) return this.openLesson(parseLesson(text), 1);
+      if (isLesson(text)) return await this.openLesson(parseLesson(text), 1);
+      refuseHeading(text);
       this.closeLesson();
       const language = isAssembly(text, kit) ? "assembly" : "words";
       this.open({ name, text, language, base, size, hasStack, calls });
@@ -380,22 +529,32 @@ class Page {
     }
   }
 
-  /* Opens what stands in the editor, or says there what is wrong with it. */
+  /* Loads what stands in the editor, or says there what is wrong with it. Answers whether it is
+   * loaded. */
   take() {
     this.editor.settleLanguage();
     const program = {
-      name: "Program",
-      text: $("text").value,
+      name: this.session.name,
+      text: this.editor.text,
       language: this.editor.language,
       base: parseHex($("base").value.trim()),
       size: Number($("size").value),
       hasStack: $("stack").checked,
       calls: this.session.calls,
+      input: this.session.input,
+      code: this.editor.isChanged ? null : this.session.machine.code,
       keepsStops: true,
     };
-    const mistake = this.tryToOpen(program);
+    const mistake = this.load(program, $("examples").value);
+    if (mistake) this.editor.goToMistake();
+    else this.showListing();
+    if (!mistake) this.editor.fillMemory();
     setText($("mistake"), mistake);
-    if (!mistake) $("editor").close();
+    return !mistake;
+  }
+
+  takeAndRun() {
+    if (this.take()) this.session.run();
   }
 
   async showLink() {
@@ -446,33 +605,92 @@ class Page {
 
   /* Opens a lesson at an exercise. Of one that is open already what was tried stays. */
   async openLesson(lesson, number) {
-    this.keepTry();
+    this.work.keep();
     const isSame = this.lesson.lesson?.text === lesson.text;
     const own = isSame ? this.lesson.lesson : lesson;
+    if (!isSame) this.work.recall(own);
     own.link ??= await encodeLesson(own.text);
     this.lesson.open(own, number, own.link);
-    const { title, about, language, calls, size, hasStack, program, tried } = this.lesson.exercise;
+    const { title, language, calls, size, hasStack, program, tried, cases } = this.lesson.exercise;
+    const [{ input }] = cases;
     const name = title || "Exercise";
     // what a student has to begin with may be empty, or have mistakes to find
     const isDraft = true;
-    this.open({ name, about, text: program, language, calls, size, hasStack, isDraft, ...tried });
+    this.open({ name, text: program, language, calls, input, size, hasStack, isDraft, ...tried });
+    this.work.keepLesson();
   }
 
-  /* Keeps the program of the exercise that is left. */
-  keepTry() {
-    const { exercise } = this.lesson;
-    if (!exercise) return;
-    const { text, language } = this.session;
-    exercise.tried = { text, language };
+  /* Judges the program that is open by the cases of the exercise. */
+  async checkLesson() {
+    if (!this.lesson.exercise) return;
+    await this.lesson.check();
+    this.work.keepLesson();
+  }
+
+  /* Judges the text in the editor. */
+  check() {
+    if (this.lesson.exercise && this.take()) this.checkLesson();
   }
 
   closeLesson() {
     if (!this.lesson.exercise) return;
+    this.work.keep();
     this.lesson.close();
     this.memory.render();
   }
 
   /* ---- showing */
+
+  /** Opens what the page's link has, or what was open when the page was left, or else the first
+   * example. */
+  async start() {
+    const latest = this.work.keeping.read("latest") ?? {};
+    const hasLink = location.hash.length > 1;
+    const isOpen = !hasLink && (latest.program !== undefined && this.openKept(latest.program)
+      || latest.lesson > 0 && await this.openKeptLesson(0, latest.lesson));
+    const { id } = EXAMPLES.find((example) => example.id === latest.example) ?? EXAMPLES[0];
+    if (!isOpen) this.openExample(hasLink ? EXAMPLES[0].id : id);
+    await this.openLink();
+    const { notice: { heading, kind }, sentence } = this.session;
+    if (this.work.keeping.isLasting) return;
+    this.session.say(heading, `${sentence} ${KEPT_NOTES.short}`, kind);
+  }
+
+  /* Whether the program in the machine is the text in the editor. */
+  renderChanged() {
+    $("unloaded").hidden = !this.editor.isChanged;
+  }
+
+  /* The button by which the calls are chosen that the program seems to be written for. */
+  renderOffer() {
+    const { calls } = this.session.notice;
+    $("choose-calls").hidden = calls === null;
+    if (calls !== null) setText($("choose-calls"), `Choose ${ENVIRONMENTS[calls].name}'s calls`);
+  }
+
+  chooseCalls() {
+    this.session.setCalls(this.session.notice.calls);
+    this.session.run();
+  }
+
+  /* Has the focus where a program that waits for input reads it, and gives it back when the program
+   * has ended. */
+  goToInput() {
+    const { session } = this;
+    if (session.isWaiting === this.wasWaiting) return;
+    if (session.isWaiting) {
+      const at = document.activeElement;
+      if (at === $("text") || at === $("input")) return;
+      this.wasWaiting = true;
+      this.focusBefore = at;
+      $("input").focus();
+    } else if (!session.isRunning) {
+      this.wasWaiting = false;
+      if (document.activeElement !== $("input") || $("input").value !== "") return;
+      if (this.focusBefore === document.body) $("input").blur();
+      else this.focusBefore.focus();
+    }
+  }
 
   render() {
     const { session } = this;
@@ -488,12 +706,19 @@ class Page {
     $("kept").title = `The records of the latest ${STEPS_KEPT.toLocaleString("en")} steps at least `
       + "are kept.";
     for (const view of this.views) view.render();
+    this.renderChanged();
+    this.renderOffer();
+    markPart();
+    this.goToInput();
     const enabled = {
       pause: session.isRunning,
       stepBack: machine.history.length > 0 && !session.isRunning,
       runBack: machine.history.length > 0 && !session.isRunning,
       run: !session.isRunning,
       runToLine: !session.isRunning,
+      stepOver: !session.isRunning,
+      stepOut: !session.isRunning && depthOf(machine) > 0,
+      runToOutput: !session.isRunning,
     };
     for (const [name, isOn] of Object.entries(enabled)) {
       document.querySelector(`[data-action=${name}]`).setAttribute("aria-disabled", !isOn);
@@ -501,24 +726,28 @@ class Page {
   }
 }
 
-/** Says why there is no machine in the page. */
+/* The parts of the page that need a machine. */
+const PARTS = ["menus", "controls", "main", "parts"];
+
+/** Says why there is no machine in the page, which then has nothing to press. */
 function refuseBrowser(sentence) {
+  for (const id of PARTS) $(id).hidden = true;
+  $("lesson").hidden = true;
   $("refusal").textContent = sentence;
   $("refusal").hidden = false;
 }
 
 async function startPage() {
-  if (!hasMemory64()) {
-    refuseBrowser("This browser can't run the machine: its WebAssembly has no 64-bit memories "
-      + "(memory64). Chromium and Chrome from 133 on, and Firefox from 134 on, have them.");
+  if (!hasWebAssembly()) {
+    refuseBrowser("This browser can't run the machine: it has no WebAssembly, or it is switched off. "
+      + "Chromium, Firefox and Safari of 2024 and later have it.");
     return;
   }
   const kit = await Kit.load(Uint8Array.from(atob(MODULE), (letter) => letter.charCodeAt(0)));
   const page = new Page(new Session(new Machine(kit)));
   globalThis.rrs = page;
-  $("controls").hidden = $("main").hidden = false;
-  page.openExample(EXAMPLES[0].id);
-  await page.openLink();
+  for (const id of PARTS) $(id).hidden = false;
+  await page.start();
   document.documentElement.dataset.ready = "true";
 }
 

@@ -175,6 +175,7 @@ function parseAssembly(text, base, size, kit, mostRoom) {
     comments: new Map(),
     ...placesOf(made.labels, base),
     sources: sourcesOf(made.statements, base),
+    code: codeOf(made.statements, base, words.length),
     entry: entry % 4 === 0 ? entry : 0,
   };
 }
@@ -206,6 +207,17 @@ function sourcesOf(statements, base) {
     if (!text.startsWith(".") && size > 4) sources.set(index + 1, { line, text: "" });
   }
   return sources;
+}
+
+/* Of each word whether it is an instruction, and no data. */
+function codeOf(statements, base, count) {
+  const code = new Uint8Array(MOST_BYTES / 4);
+  for (const { text, address, size } of statements) {
+    if (/(^|[;:]\s*)\./.test(text)) continue;
+    const first = Math.floor((address - base) / 4);
+    code.fill(1, first, Math.min(count, first + Math.ceil(size / 4)));
+  }
+  return code;
 }
 
 /** Reads a program in one of LANGUAGES, or throws a ProgramError. */

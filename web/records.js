@@ -3,9 +3,6 @@
 // The records of the latest steps. The library notes in each what takes the step back, and takes it
 // back by that. What else is told of a step stands beside it.
 
-/** How many of the latest steps can be taken back. One record more is for the step to be made. */
-const STEPS_KEPT = RECORDS - 1;
-
 /* What made a step: the machine alone, the port, or a system call. */
 const MADE_BY = { MACHINE: 0, PORT: 1, CALL: 2 };
 
@@ -25,6 +22,8 @@ class Records {
     this.extras = new Map();
     this.first = 0;
     this.steps = 0;
+    // the fewest steps that there were since one who follows them has set this
+    this.lowest = 0;
   }
 
   /** How many steps can be taken back. */
@@ -58,7 +57,7 @@ class Records {
     u32[place + RECORD.word] = word;
     u32[place + RECORD.rdAfter] = x[u32[place + RECORD.rd]];
     this.steps++;
-    if (this.length > STEPS_KEPT) this.first++;
+    if (this.length === RECORDS) this.first += STEPS_DROPPED;
     if (extra !== undefined) this.keepExtra(extra);
   }
 
@@ -97,6 +96,7 @@ class Records {
   /** Takes the latest step back, and returns its extra or undefined. One has to be kept. */
   pop() {
     this.steps--;
+    if (this.steps < this.lowest) this.lowest = this.steps;
     const extra = this.takeBack(this.steps, this.kit.addresses);
     if (extra !== undefined) this.extras.delete(this.steps);
     return extra;

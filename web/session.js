@@ -2,8 +2,9 @@
 
 // A program that is open, and what is done with it. Nothing here knows the page.
 
-/* What stands in `stops` for a word: a breakpoint, the line to run to, or both. */
-const STOP = { BREAKPOINT: 1, LINE: 2 };
+/* What stands in `stops` for a word: a breakpoint, the line to run to, where a call returns to, or
+ * several of these. */
+const STOP = { BREAKPOINT: 1, LINE: 2, RETURN: 4 };
 
 /* How many steps a second can be chosen, slowest first. */
 const SPEEDS = [1, 4, 16, 64, 256, 4096, Infinity];
@@ -12,13 +13,19 @@ const SPEEDS = [1, 4, 16, 64, 256, 4096, Infinity];
 const SLICE_MS = 20;
 const SLICE_STEPS = 4096;
 
+/* How long a run with a pace waits at least between two slices, and the longest time whose steps are
+ * made up for. */
+const SHORTEST_WAIT_MS = 16;
+const LONGEST_SLEEP_MS = 500;
+
 const LARGEST_BASE = 2 ** 32 - MOST_BYTES;
 const SIZES = [1 << 16, 1 << 18, 1 << 20];
 
-/* The memories of the two programs of the kit, and where sp starts in them. */
+/* The memories that can be chosen: their sizes, and whether sp starts at their ends. */
 const PRESETS = [
-  { name: "as rrs run: 64 KiB", base: 0, size: 1 << 16, hasStack: false },
-  { name: "as rrs exec: 1 MiB, sp at its end", base: 0, size: 1 << 20, hasStack: true },
+  { name: "64 KiB, as rrs run has", size: 1 << 16, hasStack: false },
+  { name: "1 MiB, sp at its end, as rrs exec has", size: 1 << 20, hasStack: true },
+  { name: "64 KiB, sp at its end", size: 1 << 16, hasStack: true },
 ];
 
 /* How many bytes of zeros lie above sp where a process starts: no arguments, no environment, and an
@@ -28,7 +35,7 @@ const NO_ARGUMENTS = 64;
 /* What a draft is that can't be read: a program of no words. */
 const NO_WORDS = {
   words: [], labels: new Map(), places: new Map(), comments: new Map(), sources: new Map(),
-  entry: 0,
+  entry: 0, code: null,
 };
 
 /** A machine with its program, breakpoints, and what was last said of it. */
@@ -46,8 +53,17 @@ class Session {
   /** The text of a word at an address, with the names of registers that were chosen, and a target
    * by its label. */
   disassemble(word, address, names = this.names) {
-    const text = withNames(this.machine.kit.disassemble(word, address), names);
+    const plain = inDecimal(this.machine.kit.disassemble(word, address));
+    const text = withNames(plain, names);
     return isJumpToTarget(word) ? text.replace(/0x[0-9a-f]{8}$/, this.labelled) : text;
+  }
+
+  /** The text of a word of memory: its instruction, or what it is where the program has data. */
+  textAt(index) {
+    const { machine: { kit, code, program } } = this;
+    const word = kit.words[index];
+    if (code !== null && code[index] === 0 && index < program.length) return textOfData(word);
+    return this.disassemble(word, kit.base + 4 * index);
   }
 
   /* The label at an address, as eight digits write it, or the address. */
@@ -62,13 +78,14 @@ class Session {
     return effectOf(record, this.names);
   }
 
-  /** Opens a program: `{ name, about, text, language, base, size, hasStack, calls }`, with one of
-   * LANGUAGES and one of ENVIRONMENTS. With `keepsStops` breakpoints stay at their words, found by
+  /** Opens a program: `{ name, about, text, language, base, size, hasStack, calls, input, code }`,
+   * with one of LANGUAGES and one of ENVIRONMENTS, what is typed before it starts, and which of its
+   * words are read-only, if that is known. With `keepsStops` breakpoints stay at their words, found by
    * the label before them where it is still there. The text of a draft may have mistakes, and is to
    * be mended in the editor. Throws a ProgramError, and then what was open stays. */
   open({
     name, about = "", text, language = "words", base = 0, size = SIZES[0], hasStack = false,
-    calls = "linux", keepsStops = false, isDraft = false,
+    calls = "linux", input = "", code: given = null, keepsStops = false, isDraft = false,
   }) {
     if (!Number.isInteger(base) || base < 0 || base > LARGEST_BASE || base % 4 !== 0) {
       throw new ProgramError(0, `Memory can start at a multiple of 4 up to ${hex(LARGEST_BASE)}.`);
@@ -81,14 +98,17 @@ class Session {
       throw new ProgramError(0, `The calls can be those of ${known}.`);
     }
     const { machine } = this;
-    const { words, labels, places, comments, sources, entry, isProcess, mistake = "" } =
-      isDraft ? this.readDraft(text, language, base, size) : this.read(text, language, base, size);
+    const read = isDraft ? this.readDraft(text, language, base, size)
+      : this.read(text, language, base, size);
+    const { words, labels, places, comments, sources, entry, isProcess, mistake = "" } = read;
+    const code = read.code ?? given;
     this.stop();
     const stops = keepsStops ? this.stopsIn(places) : [];
     Object.assign(
-      this, { name, about, text, language, labels, places, comments, sources, isDraft, mistake });
+      this,
+      { name, about, text, language, labels, places, comments, sources, input, isDraft, mistake });
     machine.environment = ENVIRONMENTS[calls];
-    machine.load(words, base, size, hasStack, entry, isProcess ? NO_ARGUMENTS : 0);
+    machine.load(words, base, size, hasStack, entry, isProcess ? NO_ARGUMENTS : 0, code);
     this.stops = new Uint8Array(size / 4);
     for (const index of stops) if (index < this.stops.length) this.stops[index] = STOP.BREAKPOINT;
     this.selected = 0;
@@ -143,15 +163,17 @@ class Session {
     const port = isPortCovered
       ? `Memory covers the port: a byte stored to ${hex(PORT_ADDRESS)} is not printed.` : "";
     this.lines = this.machine.program.length + 1;
+    this.machine.terminal.type(this.input);
     this.remember();
     if (this.mistake) this.say("To be edited", this.mistake, "wait");
     else this.say("Ready", [what, port, this.about].filter((part) => part).join(" "));
   }
 
   /** Says what stands in the page's line of the state: a sentence, or one by each choice of names
-   * (`byNames`). `kind` is how it looks: "ready", "run", "wait", "done" or "end". */
-  say(heading, sentence, kind = "ready") {
-    this.notice = { heading, sentence, kind };
+   * (`byNames`). `kind` is how it looks: "ready", "run", "wait", "done" or "end". `calls` are those
+   * that the program seems to be written for, where others are chosen. */
+  say(heading, sentence, kind = "ready", calls = null) {
+    this.notice = { heading, sentence, kind, calls };
     const { machine } = this;
     this.lines = Math.max(this.lines, machine.indexOf(machine.kit.pc) + 1);
     this.onChange();
@@ -166,17 +188,18 @@ class Session {
   sayEnd(end) {
     const { heading, kind } = explain(end, this.machine, this.names);
     this.isWaiting = end.reason === "waiting";
-    this.say(heading, byNames((names) => explain(end, this.machine, names).sentence), kind);
-    if (!this.isWaiting) this.onEnd();
+    this.say(heading, byNames((names) => explain(end, this.machine, names).sentence), kind,
+      callsMeant(end, this.machine));
+    this.onEnd(end);
   }
 
   /* ---- one step */
 
   step() {
-    this.begin();
+    if (!this.begin()) return undefined;
     const end = this.machine.step();
     if (end !== null) return this.sayEnd(end);
-    this.sayStep();
+    return this.sayStep();
   }
 
   sayStep() {
@@ -190,9 +213,9 @@ class Session {
   }
 
   stepBack() {
-    this.begin();
+    if (!this.begin()) return undefined;
     if (!this.machine.stepBack()) return this.sayOldest();
-    this.sayBack();
+    return this.sayBack();
   }
 
   sayBack() {
@@ -211,10 +234,16 @@ class Session {
 
   /* ---- many steps */
 
-  /* Stops what goes on, and keeps the state from which something else begins. */
+  /* Stops what goes on, and keeps the state from which something else begins. Answers whether it
+   * can: a draft with mistakes is no program. */
   begin() {
     this.stop();
+    if (this.mistake) {
+      this.say("To be edited", this.mistake, "wait");
+      return false;
+    }
     this.remember();
+    return true;
   }
 
   /* Keeps registers and memory, so that what changes from here on can be told. */
@@ -229,7 +258,9 @@ class Session {
     this.isWaiting = false;
     this.goesOn = false;
     if (this.line !== undefined) this.stops[this.line] &= ~STOP.LINE;
-    this.line = undefined;
+    if (this.returnsTo !== undefined) this.stops[this.returnsTo] &= ~STOP.RETURN;
+    this.line = this.returnsTo = undefined;
+    this.machine.stopsAtOutput = false;
   }
 
   pause() {
@@ -240,13 +271,49 @@ class Session {
 
   /** Runs to an end, a breakpoint, or `pause`. */
   run() {
-    this.begin();
+    if (!this.begin()) return undefined;
+    return this.goOn("Running", (most) => this.runSlice(most));
+  }
+
+  /** Makes the call that is next with all of its steps, or else one step. */
+  stepOver() {
+    const { machine } = this;
+    const word = machine.wordAtPc();
+    const isCall = !this.mistake && word !== undefined && kindOfJump(word) === "call";
+    if (!isCall) return this.step();
+    return this.runToReturn((machine.kit.pc + 4) % 2 ** 32, depthOf(machine));
+  }
+
+  /** Runs to where the innermost call returns to. */
+  stepOut() {
+    const [frame] = framesOf(this.machine, 1);
+    if (frame !== undefined) return this.runToReturn(frame.back, depthOf(this.machine) - 1);
+    this.stop();
+    return this.say("In no call", "No call is there to step out of.");
+  }
+
+  /* Runs to an address where at most so many calls have not returned. */
+  runToReturn(address, depth) {
+    if (!this.begin()) return undefined;
+    const index = this.machine.indexOf(address);
+    if (index >= 0) {
+      this.stops[index] |= STOP.RETURN;
+      this.returnsTo = index;
+      this.depth = depth;
+    }
+    return this.goOn("Running", (most) => this.runSlice(most));
+  }
+
+  /** Runs until something is printed. */
+  runToOutput() {
+    if (!this.begin()) return undefined;
+    this.machine.stopsAtOutput = true;
     return this.goOn("Running", (most) => this.runSlice(most));
   }
 
   /** Runs to the selected line. */
   runToLine() {
-    this.begin();
+    if (!this.begin()) return undefined;
     this.line = this.selected;
     this.stops[this.line] |= STOP.LINE;
     return this.goOn("Running", (most) => this.runSlice(most));
@@ -254,7 +321,7 @@ class Session {
 
   /** Takes steps back to a breakpoint or the first state. */
   runBack() {
-    this.begin();
+    if (!this.begin()) return undefined;
     return this.goOn("Running back", (most) => this.backSlice(most));
   }
 
@@ -265,6 +332,7 @@ class Session {
     this.isRunning = true;
     this.startedAt = performance.now();
     this.stepsBefore = this.machine.steps;
+    this.pacedSpeed = undefined;
     this.say(heading, "", "run");
     while (turn === this.turn) {
       const { steps, wait } = this.pace();
@@ -274,12 +342,19 @@ class Session {
     }
   }
 
-  /* How many steps a slice has at the chosen speed, and how long it waits then. */
+  /* How many steps are due by the clock at the chosen speed, and how long to wait for the next. */
   pace() {
     const speed = SPEEDS[this.speed];
     if (speed === Infinity) return { steps: Infinity, wait: 0 };
-    const wait = Math.max(1000 / speed, 16);
-    return { steps: Math.round(speed * wait / 1000), wait };
+    const now = performance.now();
+    const each = 1000 / speed;
+    // also where the browser has slept
+    if (speed !== this.pacedSpeed || now > this.nextAt + LONGEST_SLEEP_MS) {
+      Object.assign(this, { pacedSpeed: speed, nextAt: now });
+    }
+    const steps = Math.max(0, Math.floor((now - this.nextAt) / each) + 1);
+    this.nextAt += steps * each;
+    return { steps, wait: Math.max(this.nextAt - now, SHORTEST_WAIT_MS) };
   }
 
   /* Makes at most `most` steps, for SLICE_MS at the longest. Answers whether the run is over. */
@@ -289,26 +364,35 @@ class Session {
     const last = machine.steps + most;
     while (machine.steps < last && performance.now() < until) {
       const end = machine.run(Math.min(last - machine.steps, SLICE_STEPS), this.stops);
-      if (end !== null) {
-        this.endRun(end);
-        return true;
-      }
+      if (end === null || this.isDeeper(end)) continue;
+      this.endRun(end);
+      return true;
     }
     return false;
   }
 
+  /* Whether a run that goes to where a call returns to is there in a deeper call. */
+  isDeeper(end) {
+    if (end.reason !== "stop" || this.returnsTo === undefined) return false;
+    return this.stops[this.machine.indexOf(end.address)] === STOP.RETURN
+      && depthOf(this.machine) > this.depth;
+  }
+
   endRun(end) {
-    const isLine = this.stops[this.machine.indexOf(end.address)] & STOP.LINE;
+    const flags = this.stops[this.machine.indexOf(end.address)];
+    const isLine = flags & STOP.LINE;
     this.stop();
+    const more = `${counted(this.machine.steps - this.stepsBefore, "step")} more`;
+    if (end.reason === "output") return this.say("Printed", `After ${more}.`);
+    if (flags === STOP.RETURN) return this.say("Back from the call", `After ${more}.`);
     if (end.reason !== "stop") {
       this.sayEnd(end);
       this.goesOn = this.isWaiting;
-      return;
+      return undefined;
     }
     const where = isLine ? "the line" : "a breakpoint";
-    const made = counted(this.machine.steps - this.stepsBefore, "step");
-    this.say(isLine ? "At the line" : "Breakpoint",
-      `Stopped before ${where} at ${hex(end.address)}, after ${made} more.`, "wait");
+    return this.say(isLine ? "At the line" : "Breakpoint",
+      `Stopped before ${where} at ${hex(end.address)}, after ${more}.`, "wait");
   }
 
   backSlice(most) {
@@ -335,6 +419,7 @@ class Session {
   /** Has the calls of another environment served from here on. */
   setCalls(name) {
     this.machine.environment = ENVIRONMENTS[name];
+    this.notice.calls = null;
     this.onChange();
   }
 
@@ -411,6 +496,18 @@ class Session {
   }
 
   /* ---- lines and labels */
+
+  /** An address, as the label before it and how far it is behind. */
+  nameOf(address) {
+    const index = this.machine.indexOf(address);
+    for (let at = index; at >= 0; at--) {
+      const [name] = this.labels.get(at) ?? [];
+      if (name === undefined) continue;
+      const bytes = address - this.machine.kit.base - 4 * at;
+      return shortened(name, LABEL_SHOWN) + (bytes ? ` + ${bytes}` : "");
+    }
+    return hex(address);
+  }
 
   /** The address of a label, or undefined. */
   addressOf(name) {

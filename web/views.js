@@ -139,7 +139,7 @@ class ListingView {
     const { kit } = machine;
     const address = kit.base + 4 * index;
     const word = kit.words[index];
-    const text = session.disassemble(word, address);
+    const text = session.textAt(index);
     const labels = labelsShown(session.labels.get(index) ?? []);
     const source = session.sources.get(index);
     const comment = shortened(source?.text ?? session.comments.get(index) ?? "", COMMENT_SHOWN);
@@ -231,12 +231,12 @@ class RegistersView {
 
 /* ---- memory */
 
-const MEMORY_ROWS = 13;
+/* How many rows of memory there are, where there is no room to count them by, and at least. */
+const MEMORY_ROWS = 7;
+const FEWEST_ROWS = 3;
 
-/* As many are on one screen with the registers where a window is low, as on 1366 x 768, and how
- * high such a window is at most, with a lesson above and without. */
-const MEMORY_ROWS_LOW = 7;
-const LOW = { withLesson: 890, alone: 740 };
+/* How many of them lie before the one that memory is shown around. */
+const ROWS_BEFORE = 4;
 
 /* What the marks of memory mean. */
 const MARKS_OF_MEMORY = {
@@ -277,11 +277,11 @@ class MemoryView {
     if (!choices.some(([value]) => value === this.around)) this.around = "sp";
   }
 
-  /* How many rows there are. */
+  /* How many rows there are, by the room there is. */
   get rows() {
-    const most = $("lesson").hidden ? LOW.alone : LOW.withLesson;
-    const isLow = matchMedia(`(min-width: 1081px) and (max-height: ${most}px)`).matches;
-    return isLow ? MEMORY_ROWS_LOW : MEMORY_ROWS;
+    const height = $("memory").rows[0]?.offsetHeight;
+    if (!height) return MEMORY_ROWS;
+    return Math.max(FEWEST_ROWS, Math.floor(($("panel-memory").clientHeight - 10) / height));
   }
 
   /* How many bytes a row has, by the room there is. */
@@ -311,7 +311,7 @@ class MemoryView {
     const isIn = row >= this.start && row < this.start + (rows - 1) * rowBytes;
     const isExact = this.around === "address" || this.around.startsWith("label");
     if (isExact) this.start = row;
-    else if (!isIn) this.start = row - 4 * rowBytes;
+    else if (!isIn) this.start = row - Math.min(ROWS_BEFORE, rows - 2) * rowBytes;
     this.start = Math.max(kit.base, Math.min(this.start, most));
     this.start -= (this.start - kit.base) % rowBytes;
   }
@@ -392,6 +392,63 @@ class MemoryView {
   }
 }
 
+/* ---- the details, and the parts of a narrow page */
+
+/** The panels of details, of which one is shown. */
+class TabsView {
+  /** `onShow` is called when another is shown. */
+  constructor(onShow) {
+    this.onShow = onShow;
+    this.all = [...$("tabs").children].map(({ id }) => id.replace("tab-", ""));
+    this.now = this.all[0];
+    $("tabs").addEventListener("click", ({ target }) => {
+      if (target.role === "tab") this.show(target.id.replace("tab-", ""));
+    });
+    $("tabs").addEventListener("keydown", (event) => this.press(event));
+  }
+
+  show(name) {
+    this.now = name;
+    for (const each of this.all) {
+      const isShown = each === name;
+      $(`tab-${each}`).setAttribute("aria-selected", isShown);
+      $(`tab-${each}`).tabIndex = isShown ? 0 : -1;
+      $(`panel-${each}`).hidden = !isShown;
+      document.querySelector(`[data-of=${each}]`).hidden = !isShown;
+    }
+    this.onShow();
+  }
+
+  next(by = 1) {
+    const { all } = this;
+    this.show(all[(all.indexOf(this.now) + by + all.length) % all.length]);
+  }
+
+  press(event) {
+    const by = { ArrowRight: 1, ArrowLeft: -1 }[event.key];
+    if (by === undefined) return;
+    event.preventDefault();
+    this.next(by);
+    $(`tab-${this.now}`).focus();
+  }
+}
+
+/** Brings a part of a narrow page into view. */
+function showPart(name) {
+  const part = document.querySelector(`section.${name}`);
+  $("main").scrollTo({ left: part.offsetLeft - $("main").offsetLeft });
+}
+
+/** Marks the part of a narrow page that is in view. */
+function markPart() {
+  const { scrollLeft, clientWidth } = $("main");
+  const at = Math.round(scrollLeft / Math.max(1, clientWidth));
+  [...$("parts").children].forEach((button, number) => {
+    if (number === at) button.setAttribute("aria-current", "true");
+    else button.removeAttribute("aria-current");
+  });
+}
+
 /* ---- the console */
 
 const OUTPUT_SHOWN = 20000;
@@ -455,52 +512,79 @@ class FramesView {
     this.body = $("frames").tBodies[0];
   }
 
-  /* An address, as the label before it and how far it is behind. */
-  nameOf(address) {
-    const { session } = this;
-    const index = session.machine.indexOf(address);
-    for (let at = index; at >= 0; at--) {
-      const [name] = session.labels.get(at) ?? [];
-      if (name === undefined) continue;
-      const bytes = address - session.machine.kit.base - 4 * at;
-      return shortened(name, LABEL_SHOWN) + (bytes ? ` + ${bytes}` : "");
-    }
-    return hex(address);
-  }
-
   render() {
     const { session } = this;
     // while it runs it would be gone before it is read
     if (session.isRunning) return;
-    const frames = framesOf(session.machine);
-    const shown = frames.slice(0, FRAMES_SHOWN);
+    const shown = framesOf(session.machine, FRAMES_SHOWN);
     const makeOne = () => makeRow("tr", [1, 2, 3].map(() => make("td")));
     const rows = resize(this.body, shown.length, makeOne);
     shown.forEach(({ entry, from, back, sp }, at) => {
       const [name, caller, stack] = rows[at].children;
-      setText(name, this.nameOf(entry));
-      setText(caller, this.nameOf(from));
+      setText(name, session.nameOf(entry));
+      setText(caller, session.nameOf(from));
       caller.title = `from ${hex(from)}, back to ${hex(back)}`;
       setText(stack, hexOf(sp));
     });
-    const others = frames.length - shown.length;
+    const others = depthOf(session.machine) - shown.length;
     const remarks = remarksOf(session.machine);
-    const notes = [frames.length === 0 ? "none" : others > 0 ? `${numbered(others)} more` : ""];
+    const notes = [shown.length === 0 ? "none" : others > 0 ? `${numbered(others)} more` : ""];
     if (remarks.length > 0) notes.push(counted(remarks.length, "remark"));
     setText($("frames-note"), notes.filter((note) => note).join(", "));
+    const many = remarks.length > 0 ? ` (${counted(remarks.length, "remark")})` : "";
+    setText($("tab-frames"), `Calls${many}`);
     const items = resize($("remarks"), remarks.length, () => make("li"));
     remarks.forEach((remark, at) => setText(items[at],
-      sentenceOf(remark, session.names, (address) => this.nameOf(address))));
+      sentenceOf(remark, session.names, (address) => session.nameOf(address))));
   }
 }
 
 /* ---- the lesson */
+
+/* What the menu of examples says of a program that is none of them, and of no lesson. */
+const YOUR_OWN = "your own";
+
+/* How long a program is judged before the page answers. */
+const JUDGED_MS = 12;
+
+/* How many tries of an exercise are kept. */
+const MOST_TRIES = 50;
+
+/* Adds a try, unless it is the latest one again. */
+function addTry(exercise, attempt) {
+  exercise.tries ??= [];
+  if (exercise.tries.at(-1)?.text === attempt.text) exercise.tries.pop();
+  exercise.tries.push(attempt);
+  if (exercise.tries.length > MOST_TRIES) exercise.tries.shift();
+}
+
+/* A text, in which what stands in backticks is code, as nodes. */
+const withCode = (text) => text.split(/`([^`]+)`/).map((part, at) =>
+  (at % 2 === 1 ? make("code", "", part) : part));
+
+/* A paragraph of a lesson. */
+function makeParagraph({ isCode, text }) {
+  if (isCode) return make("pre", "", text);
+  const paragraph = make("p");
+  paragraph.append(...withCode(text));
+  return paragraph;
+}
+
+/* What came of a case. Of one that is hidden nothing is told but whether it is right. */
+function makeCase({ title, isHidden, misses }, at, names) {
+  const all = misses.get(names);
+  const name = title || `case ${at + 1}`;
+  const why = isHidden ? "not right (its input is hidden)" : all.join(" ");
+  return make("li", all.length === 0 ? "right" : "missed",
+    `${name}: ${all.length === 0 ? "right" : why}`);
+}
 
 /** The exercises of the lesson that is open, and what came of the one that is tried. */
 class LessonView {
   constructor(session) {
     this.session = session;
     this.lesson = null;
+    this.turn = 0;
   }
 
   get exercise() {
@@ -519,6 +603,7 @@ class LessonView {
       return makeRow("li", [anchor]);
     }));
     $("lesson").hidden = false;
+    $("examples").options[0].text = lesson.title ? `Lesson: ${lesson.title}` : "a lesson";
     this.show();
     // a link that was followed by a key has the focus on
     if (hasFocus) $("exercises").children[number - 1].firstChild.focus();
@@ -527,14 +612,42 @@ class LessonView {
   close() {
     this.lesson = null;
     $("lesson").hidden = true;
+    $("examples").options[0].text = YOUR_OWN;
   }
 
-  /** Compares what came out with what is expected. */
-  check() {
+  /* The session in which programs are judged, with a machine of its own. */
+  get judging() {
+    const { module } = this.session.machine.kit;
+    this.judge ??= new Session(new Machine(
+      new Kit(new WebAssembly.Instance(module, {}).exports)));
+    return this.judge;
+  }
+
+  /** Judges the program that is open by each case, and keeps it as a try. */
+  async check() {
     const { exercise, session } = this;
+    const { text, language } = session;
+    const turn = ++this.turn;
+    const told = await judge(this.judging, exercise, { text, language }, () => this.pause(turn));
+    if (turn !== this.turn) return;
+    exercise.told = told;
+    const right = rightOf(told);
+    if (right === told.length) exercise.isSolved = true;
+    addTry(exercise, { text, language, right, of: told.length });
+    if (exercise === this.exercise) this.show();
+  }
+
+  /* Has the page answer where judging takes long. */
+  async pause(turn) {
+    if (turn === this.turn && performance.now() - this.pausedAt < JUDGED_MS) return;
+    await new Promise((done) => setTimeout(done));
+    this.pausedAt = performance.now();
+  }
+
+  showHint() {
+    const { exercise } = this;
     if (!exercise) return;
-    exercise.misses = byNames((names) => missesOf(exercise, session.machine, names));
-    if (exercise.misses.get(session.names).length === 0) exercise.isSolved = true;
+    exercise.hinted = Math.min((exercise.hinted ?? 0) + 1, exercise.hints.length);
     this.show();
   }
 
@@ -551,13 +664,38 @@ class LessonView {
       item.firstChild.setAttribute("aria-description", said);
     });
     setText($("exercise-title"), exercise.title);
-    setText($("exercise-about"), [lesson.about, exercise.about].filter((part) => part).join(" "));
-    const misses = exercise.misses?.get(this.session.names);
-    const isSolved = misses?.length === 0;
-    $("exercise-check").className = `check ${misses ? (isSolved ? "done" : "end") : ""}`;
-    const untried = "Run the program: what comes out is compared when it ends.";
-    const told = misses === undefined ? untried : misses.join(" ");
-    setText($("exercise-check"), isSolved ? "Solved." : told);
+    $("exercise-about").replaceChildren(...[...lesson.about, ...exercise.about].map(makeParagraph));
+    this.showHints();
+    this.showVerdict();
+  }
+
+  showHints() {
+    const { hints, hinted = 0 } = this.exercise;
+    $("exercise-hints").replaceChildren(...hints.slice(0, hinted).map((hint) => {
+      const item = make("li");
+      item.append(...withCode(hint));
+      return item;
+    }));
+    const button = document.querySelector("[data-action=hint]");
+    button.hidden = hints.length === 0;
+    button.setAttribute("aria-disabled", hinted === hints.length);
+  }
+
+  /* What came of the latest try: of one case what is missed, and of several a line of each. */
+  showVerdict() {
+    const { told, cases, isSolved } = this.exercise;
+    const right = told && rightOf(told);
+    const isRight = told !== undefined && right === told.length;
+    $("exercise-check").className = `check ${told ? (isRight ? "done" : "end") : ""}`;
+    const of = cases.length > 1 ? ` with ${cases.length} cases` : "";
+    const untried = `${isSolved ? "Solved before. " : ""}Run the program, or check it${of}: what `
+      + "comes out is compared.";
+    const { names } = this.session;
+    const some = cases.length > 1 ? `${right} of ${cases.length} cases are right.`
+      : told?.[0].misses.get(names).join(" ");
+    setText($("exercise-check"), isRight ? "Solved." : told === undefined ? untried : some);
+    const all = told !== undefined && cases.length > 1 ? told : [];
+    $("exercise-cases").replaceChildren(...all.map((each, at) => makeCase(each, at, names)));
   }
 }
 

@@ -21,6 +21,20 @@ function withNames(text, names) {
   return text.replace(/\bx(\d+)\b/g, (_, number) => names[number]);
 }
 
+/** A text of the disassembler, with the offset of jalr in decimal, as loads and stores have it. */
+function inDecimal(text) {
+  return text.replace(/^(jalr .*)0x([0-9a-f]{3})\(/, (_, before, digits) =>
+    `${before}${parseInt(digits, 16) << 20 >> 20}(`);
+}
+
+/** A word of data, as a directive has it: a number, or its letters. */
+function textOfData(word) {
+  const bytes = [0, 8, 16, 24].map((at) => word >>> at & 0xff);
+  const letters = String.fromCharCode(...bytes).replace(/\0+$/, "");
+  const areLetters = letters.length > 1 && /^[\t\n\x20-\x7e]+$/.test(letters);
+  return areLetters ? `.ascii ${JSON.stringify(letters)}` : `.word ${word | 0}`;
+}
+
 /** The number of a register by any of its names, or undefined. */
 function registerNamed(name) {
   if (name === "fp") return ABI_NAMES.indexOf("s0");
@@ -75,25 +89,75 @@ const whereMemoryIs = (machine) => {
   return `Memory goes from ${hex(base)} to ${hex(base + size - 1)}.`;
 };
 
+/* Whether sp or s0, which a stack is reached by, is the base of the load or store at the pc. */
+function isByStack(machine) {
+  const base = machine.wordAtPc() >>> 15 & 31;
+  return base === REGISTER.SP || base === REGISTER.S0;
+}
+
+/* Whether the program ran past its last instruction: it made the one before the pc, and at the pc
+ * there is no more. */
+function ranPastEnd(machine) {
+  const { kit, code, program, executed } = machine;
+  const index = machine.indexOf(kit.pc);
+  if (index < 1 || executed[index - 1] === 0) return false;
+  return code === null ? index >= program.length : code[index] === 0 && code[index - 1] === 1;
+}
+
+/* Why an access by sp goes wrong, or "". */
+function whyOfStack(machine, names) {
+  if (!isByStack(machine)) return "";
+  const sp = names[REGISTER.SP];
+  // below 0, where it began
+  if (!machine.hasStack && machine.kit.x[REGISTER.SP] >= 2 ** 32 - MOST_BYTES) {
+    return ` ${sp} was never set: it began as 0.`;
+  }
+  return machine.hasStack && machine.kit.x[REGISTER.SP] < machine.kit.base + machine.kit.size / 2
+    || machine.kit.x[REGISTER.SP] >= 2 ** 32 - MOST_BYTES
+    ? " The stack has reached the start of memory: is there a recursion without an end?" : "";
+}
+
+/* The call by which a program ends, as a sentence names it, by the environment. */
+function exitCall({ environment }, names) {
+  const number = Object.keys(environment.calls).find((call) =>
+    /^exit$/i.test(environment.calls[call].name));
+  return `the call ${environment.calls[number].name} (${names[environment.number]} = ${number})`;
+}
+
 /* The sentence of each fault. `pc` is where the machine stands. */
 const FAULT_SENTENCES = {
-  [FAULT.ILLEGAL]({ address, word }) {
-    const why = word === 0 ? " Memory is 0 behind a program's end." : "";
-    return `The word at ${hex(address)} is ${hex(word)}, which is no instruction of RV32IM.${why}`;
+  [FAULT.ILLEGAL]({ address, word }, machine, names) {
+    const what = `The word at ${hex(address)} is ${hex(word)}, which is no instruction of RV32IM.`;
+    if (ranPastEnd(machine)) {
+      return `The program has no exit: it ran past its last instruction. ${what} A program ends by `
+        + `${exitCall(machine, names)}.`;
+    }
+    return word === 0 ? `${what} Memory is 0 behind a program's end.` : what;
   },
-  [FAULT.FETCH]({ address }, machine) {
+  [FAULT.FETCH]({ address }, machine, names) {
+    const from = machine.executed[machine.indexOf(address - 4)] > 0;
+    if (from) {
+      return `The program has no exit: it ran past its last instruction, and memory ends there. A `
+        + `program ends by ${exitCall(machine, names)}.`;
+    }
     return `The program went to ${hex(address)}, where there is no memory. `
       + whereMemoryIs(machine);
   },
-  [FAULT.LOAD]({ address }, machine) {
+  [FAULT.LOAD]({ address }, machine, names) {
     const { pc } = machine.kit;
     return `The instruction at ${hex(pc)} loads from ${hex(address)}, where there is no memory. `
-      + whereMemoryIs(machine);
+      + whereMemoryIs(machine) + whyOfStack(machine, names);
   },
-  [FAULT.STORE]({ address }, machine) {
+  [FAULT.STORE]({ address, isCode }, machine, names) {
     const { pc } = machine.kit;
+    if (isCode) {
+      const why = isByStack(machine)
+        ? " The stack has reached the program: is there a recursion without an end?" : "";
+      return `The instruction at ${hex(pc)} stores to ${hex(address)}, where the program's `
+        + `instructions are, which are read-only.${why}`;
+    }
     return `The instruction at ${hex(pc)} stores to ${hex(address)}, where there is no memory. `
-      + whereMemoryIs(machine);
+      + whereMemoryIs(machine) + whyOfStack(machine, names);
   },
   [FAULT.MISALIGNED]({ address }, machine) {
     const { pc } = machine.kit;
@@ -107,9 +171,16 @@ const FAULT_SENTENCES = {
     return `The instruction at ${hex(pc)} ${does} ${bytes} bytes at ${hex(address)}, which is no `
       + `multiple of ${bytes}.`;
   },
-  [FAULT.ECALL]({ address }, { kit, environment }, names) {
+  [FAULT.ECALL]({ address }, machine, names) {
+    const { kit, environment } = machine;
     const number = kit.x[environment.number];
     const register = names[environment.number];
+    const meant = callsMeant({ reason: "fault", kind: FAULT.ECALL }, machine);
+    if (meant !== null) {
+      const { name, number: by, calls } = ENVIRONMENTS[meant];
+      return `The ecall at ${hex(address)} is none of ${environment.name}'s: ${names[by]} = `
+        + `${kit.x[by]} is ${calls[kit.x[by]].name} of ${name}. Choose its calls here.`;
+    }
     return `The ecall at ${hex(address)} asks for system call ${number} (${register}). This page `
       + `serves ${callsOf(environment)}, as ${environment.name} has them.`;
   },
@@ -128,6 +199,15 @@ const FAULT_NAMES = {
   [FAULT.EBREAK]: "Breakpoint instruction",
 };
 
+/** The name of the environment whose call an `ecall` seems to make that the chosen one does not
+ * serve, or null. */
+function callsMeant(end, { kit, environment }) {
+  if (end.reason !== "fault" || end.kind !== FAULT.ECALL) return null;
+  const isMeant = (other) => other !== environment && other.calls[kit.x[other.number]] !== undefined
+    && (other.number === REGISTER.A7 || kit.x[REGISTER.A7] === 0);
+  return Object.keys(ENVIRONMENTS).find((name) => isMeant(ENVIRONMENTS[name])) ?? null;
+}
+
 /** A heading and a sentence for why the machine stands where it stands, and which kind of news that
  * is: a fault is an "end", exit is "done", and "wait" is none, since the program can go on. */
 function explain(end, machine, names) {
@@ -136,6 +216,13 @@ function explain(end, machine, names) {
       return {
         heading: FAULT_NAMES[end.kind],
         sentence: `${FAULT_SENTENCES[end.kind](end, machine, names)} Nothing was changed by it.`,
+        kind: "end",
+      };
+    case "returned":
+      return {
+        heading: "Return of main",
+        sentence: `The ret at ${hex(machine.kit.pc)} has nowhere to go: ${names[REGISTER.RA]} is 0, `
+          + `since nothing called main. A program ends by ${exitCall(machine, names)}.`,
         kind: "end",
       };
     case "refused":

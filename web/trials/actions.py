@@ -1,17 +1,24 @@
 """The actions of the page: each by its key, by its button and by its menu, through events of a
 mouse and a keyboard, with the same effect; and where none acts."""
 
+from trials.examples import PROGRAMS
 from trials.report import same
+from trials.view import js
 
 # A loop before its sixth step, with a breakpoint at line 5, where it stands, line 3 selected,
 # memory from 0x2000 on, and a speed that has one slower and one faster.
 PREPARE = """(async () => {
     for (const dialog of document.querySelectorAll("dialog[open]")) dialog.close();
+    rrs.editor.close();
+    $("more").open = false;
+    rrs.tabs.show("memory");
+    rrs.work.unsaved.clear();
     document.activeElement.blur();
     document.documentElement.removeAttribute("data-theme");
     document.getElementById("keys-on").checked = true;
     document.getElementById("input").value = "";
-    rrs.openExample("sum");
+    rrs.closeLesson();
+    rrs.open(SUM, {});
     rrs.session.toggleBreakpoint(5);
     rrs.setSpeed(SPEEDS.length - 1);
     await rrs.session.run();
@@ -23,7 +30,7 @@ PREPARE = """(async () => {
     rrs.memory.show("0x2000");
     document.getElementById("address").value = "0x00002000";
     scrollTo(0, 0);
-})()"""
+})()""".replace("SUM", js(PROGRAMS["sum"]))
 
 # the same program in a run that has made one step, and would wait some days for the next
 PREPARE_RUN = """(() => {
@@ -52,6 +59,7 @@ STATE = """(() => {
         note: text("lost"), theme: getComputedStyle(document.documentElement).colorScheme,
         focus: focus.id || focus.tagName,
         dialog: [...document.querySelectorAll("dialog[open]")].map(({ id }) => id).join(),
+        isEditing: !document.getElementById("editor").hidden, details: rrs.tabs.now,
     };
 })()"""
 
@@ -67,7 +75,7 @@ BASE = {
     "stops": "line-5", "speed": "64/s", "radix": "hexadecimal", "unit": "words",
     "memory": "00002000: 00000000", "pace": 64, "around": "at the address",
     "names": "names (a0)", "line": "add a2, a2, a3", "calls": "calls of Linux",
-    "preset": "as rrs run: 64 KiB",
+    "preset": "64 KiB, as rrs run has", "isEditing": False, "details": "memory",
     "address": "0x00002000", "note": "", "theme": "light dark", "focus": "BODY", "dialog": "",
 }
 
@@ -75,6 +83,12 @@ BASE = {
 EFFECTS = {
     "step": {"heading": "Step 6", "sentence": "add a2, a2, a3: a2 = 0x00000003",
              "steps": "6 steps", "pc": "0x00000018", "a2": "0x00000003"},
+    # no call is open, and add is none
+    "stepOver": {"heading": "Step 6", "sentence": "add a2, a2, a3: a2 = 0x00000003",
+                 "steps": "6 steps", "pc": "0x00000018", "a2": "0x00000003"},
+    "stepOut": {"heading": "In no call", "sentence": "No call is there to step out of."},
+    "runToOutput": {"sentence": "Stopped before a breakpoint at 0x00000014, after 6 steps more.",
+                    "steps": "11 steps", "a2": "0x00000003"},
     "stepBack": {"heading": "Back at step 4", "sentence": "Next: lw a3, 0(a0)",
                  "steps": "4 steps", "pc": "0x00000010"},
     "run": {"sentence": "Stopped before a breakpoint at 0x00000014, after 6 steps more.",
@@ -105,18 +119,21 @@ EFFECTS = {
     "endInput": {"note": "input ended"},
     "examples": {"focus": "examples"},
     "preset": {"focus": "preset"},
-    "edit": {"dialog": "editor", "focus": "text"},
+    "details": {"details": "frames"},
+    "edit": {"isEditing": True, "focus": "text"},
     "open": {},
+    "save": {},
     "link": {"dialog": "shared", "focus": "link"},
     # no lesson is open
-    "lesson": {}, "closeLesson": {},
+    "lesson": {}, "check": {}, "hint": {}, "handIn": {}, "closeLesson": {},
     "theme": {"theme": "dark"},
     "keys": {"dialog": "help", "focus": "keys-on"},
 }
 
 # the actions that have a button, and those that a menu does too: its name, and the arrow key
-BUTTONS = ["edit", "open", "link", "theme", "keys", "runBack", "stepBack", "step", "run", "pause",
-           "runToLine", "reset", "closeLesson", "breakpoint", "change", "endInput", "memoryUp",
+BUTTONS = ["open", "save", "link", "keys", "theme", "runBack", "stepBack", "step", "stepOver",
+           "stepOut", "run", "pause", "runToOutput", "runToLine", "reset", "check",
+           "hint", "handIn", "closeLesson", "breakpoint", "edit", "change", "endInput", "memoryUp",
            "memoryDown"]
 MENUS = {"slower": ("speed", "ArrowUp"), "faster": ("speed", "ArrowDown"),
          "radix": ("radix", "ArrowDown"), "names": ("names", "ArrowDown"),
@@ -125,13 +142,14 @@ OTHER_MENUS = {
     ("calls", "ArrowDown"): {"calls": "calls of RARS"},
     ("around", "ArrowUp"): {"around": "at numbers", "memory": "00000030: 00000003"},
     ("examples", "ArrowDown"): {
-        "heading": "Ready", "sentence": "44 bytes from 0x00000000 on. gcd(1071, 462) by Euclid's "
-        "algorithm, as gcc makes it of C. The status is the divisor.", "steps": "0 steps",
-        "pc": "0x00000000", "selected": "line-0", "stops": "", "line": "bne a1, zero, divide"},
+        "heading": "Ready", "sentence": "32 bytes from 0x00000000 on. It prints a line, and ends. "
+        "Run it, or make it step by step. Edit has its text.", "steps": "0 steps",
+        "pc": "0x00000000", "selected": "line-0", "stops": "", "line": "ecall",
+        "calls": "calls of RARS", "preset": "64 KiB, sp at its end"},
     ("preset", "ArrowDown"): {
         "heading": "Ready", "sentence": "80 bytes from 0x00000000 on. A loop adds eight words of "
         "memory. The status is their sum.", "steps": "0 steps", "pc": "0x00000000",
-        "selected": "line-0", "preset": "as rrs exec: 1 MiB, sp at its end"},
+        "selected": "line-0", "preset": "1 MiB, sp at its end, as rrs exec has"},
 }
 
 
@@ -169,9 +187,11 @@ def by_each_way(machine):
         page.press(key)
         has_effect(page, "its key", name, EFFECTS[name])
     for name in BUTTONS:
-        if name == "closeLesson":
+        if name in ("check", "hint", "handIn", "closeLesson"):
             continue
         prepare(page, name)
+        if name == "theme":
+            page.click("#more summary")
         page.click(f"[data-action={name}]")
         has_effect(page, "its button", name, EFFECTS[name], has_focus=False)
     for name, (menu, key) in MENUS.items():
@@ -181,7 +201,7 @@ def by_each_way(machine):
         has_effect(page, "its menu", name, {**EFFECTS[name], "focus": menu})
     for (menu, key), effect in OTHER_MENUS.items():
         prepare(page)
-        page.ask(f"document.getElementById('{menu}').focus()")
+        page.ask(f"$('more').open = true; document.getElementById('{menu}').focus()")
         page.press(key)
         has_effect(page, "keys", menu, {**effect, "focus": menu})
     prepare(page)
@@ -208,8 +228,14 @@ def where_none_acts(machine):
         same(f"keys in {field}", state, page.ask(STATE))
         if field == "input":
             same("what was typed", keys, page.ask("document.getElementById('input').value"))
-    for name, dialog in (("edit", "editor"), ("keys", "help"), ("link", "shared"),
-                         ("change", "change")):
+    prepare(page)
+    page.press("e")
+    page.press("a", "Ctrl")
+    press_all(page)
+    same("keys in the editor", {**BASE, "isEditing": True, "focus": "text"}, page.ask(STATE))
+    same("what was typed there", keys, page.ask("$('text').value.slice(0, KEYS.length)".replace(
+        "KEYS", js(keys))))
+    for name, dialog in (("keys", "help"), ("link", "shared"), ("change", "change")):
         prepare(page)
         page.press(page.ask(f"ACTIONS.{name}.key"))
         page.wait(f"document.querySelector('#{dialog}').open")
@@ -240,7 +266,7 @@ def other_keyboards(machine):
         ("[ by Ctrl and Alt", [("[", 3)], EFFECTS["memoryUp"]),
         ("] by Ctrl and Alt", [("]", 3)], EFFECTS["memoryDown"]),
         ("s with Ctrl and Alt", [("s", 3)], {}),
-        ("keys of no action", [(key, 0) for key in ("i", "F2", "ArrowDown", "Enter", "Home")], {}),
+        ("keys of no action", [(key, 0) for key in ("0", "F2", "ArrowDown", "Enter", "Home")], {}),
     ):
         prepare(page)
         for key, modifiers in presses:

@@ -225,6 +225,22 @@ def calls_of_others(machine):
     machine.choose("three")
 
 
+def calls_meant(machine):
+    """a program of RARS under the calls of Linux is told so, and one click chooses RARS's"""
+    page = machine.page
+    page.ask("rrs.openExample('ecall')")
+    machine.run()
+    machine.says("Environment call", "The ecall at 0x00000008 is none of Linux's: a7 = 1 is PrintInt "
+                 "of RARS. Choose its calls here. Nothing was changed by it.")
+    same("the button", "Choose RARS's calls", page.text("#choose-calls"))
+    page.click("#choose-calls")
+    page.wait("!rrs.session.isRunning")
+    machine.says("Exit", "The program ended by the ecall at 0x00000010, with status 0.")
+    same("what it prints, and the calls", ["42", "rars", True], page.ask(
+        "[$('output').textContent, rrs.session.calls, $('choose-calls').hidden]"))
+    machine.leave_fields()
+
+
 CALL_TABLE = """["call-title", "call-table"].map((id) => document.getElementById(id)).map(
     (part) => part.tBodies ? [...part.tBodies[0].rows].map((row) =>
         [...row.cells].map((cell) => cell.textContent)) : part.textContent)"""
@@ -266,5 +282,6 @@ def calls_shown(machine):
 
 
 TRIALS = [
-    calls_of_others, calls_shown, changes_by_hand, since_the_last_stop, names, calls_made, kept_breakpoints,
+    calls_of_others, calls_meant, calls_shown, changes_by_hand, since_the_last_stop, names, calls_made,
+    kept_breakpoints,
 ]

@@ -71,7 +71,17 @@ class Browser:
                 if "error" in message:
                     raise Failed(f"{method}: {message['error']['message']}")
                 return message["result"]
-            self.events.append(message)
+            if "id" not in message:
+                self.events.append(message)
+                self.leave(message)
+
+    def leave(self, event):
+        """Leaves a page that asks whether to leave it. The event tells that it asked."""
+        if event["method"] != "Page.javascriptDialogOpening":
+            return
+        call = {"id": 0, "method": "Page.handleJavaScriptDialog", "params": {"accept": True},
+                "sessionId": event["sessionId"]}
+        os.write(self.write_to, json.dumps(call).encode() + b"\0")
 
     def receive(self, seconds=60):
         """The next message."""
@@ -85,6 +95,15 @@ class Browser:
             self.unread += got
         message, self.unread = self.unread.split(b"\0", 1)
         return json.loads(message)
+
+    @staticmethod
+    def patience(holds, seconds=30):
+        """Waits until a function answers that something holds."""
+        until = time.monotonic() + seconds
+        while not holds():
+            if time.monotonic() > until:
+                raise Failed(f"in {seconds} s this did not come to hold: {holds}")
+            time.sleep(0.01)
 
     def open(self, address, width=1280, height=900, dark=False):
         """Opens a page, and returns it when it has loaded."""

@@ -3,7 +3,7 @@
 // Opens sources as the page does, and runs each to its end in the memory of `rrs exec`. Tells of
 // each, on a line, what it printed and its status, or why it was not opened.
 //
-// usage: node --experimental-wasm-memory64 classroom.js SCRIPTS MODULE SOURCE ..
+// usage: node classroom.js SCRIPTS MODULE SOURCE ..
 
 const fs = require("node:fs");
 const { makeClock, scripts } = require("./cases/load.js");

@@ -30,8 +30,7 @@ HEADINGS = {
 
 def node(script, *arguments):
     """Runs a script of the trials in node. Answers its status and what it printed."""
-    command = ["node", "--experimental-wasm-memory64", "--no-warnings", WEB / "trials" / script,
-               Subject.scripts, Subject.module, *arguments]
+    command = ["node", WEB / "trials" / script, Subject.scripts, Subject.module, *arguments]
     try:
         run = subprocess.run(command, capture_output=True, text=True, check=False, timeout=LONGEST)
     except subprocess.TimeoutExpired:

@@ -15,8 +15,9 @@ SEEN = (WEB / "trials" / "seen.js").read_text(encoding="utf-8").strip()
 # what a line of the list has of a node of the accessibility tree
 ROLES = {
     "RootWebArea", "alert", "banner", "button", "cell", "checkbox", "columnheader", "combobox",
-    "contentinfo", "dialog", "group", "heading", "image", "link", "list", "listbox", "listitem",
-    "log", "main", "option", "region", "row", "rowheader", "status", "table", "textbox", "toolbar",
+    "contentinfo", "dialog", "form", "group", "heading", "image", "link", "list", "listbox", "listitem",
+    "log", "main", "navigation", "option", "region", "row", "rowheader", "status", "tab", "table",
+    "tablist", "tabpanel", "textbox", "toolbar",
 }
 STATES = {"checked", "disabled", "invalid", "busy", "live", "level", "keyshortcuts", "modal",
           "readonly", "focused", "multiline", "selected"}
@@ -39,14 +40,14 @@ def said(node):
 
 
 def tree(page, inside=None):
-    """The lines of the accessibility tree, or those of a dialog alone."""
+    """The lines of the accessibility tree, or those inside nodes of a role alone."""
     nodes = page.send("Accessibility.getFullAXTree")["nodes"]
     by_id = {node["nodeId"]: node for node in nodes}
     lines = []
 
     def walk(node, depth, is_in):
         role = value_of(node, "role")
-        is_in = is_in or (role == "dialog" and inside is not None)
+        is_in = is_in or role == inside
         is_shown = not node.get("ignored") and role in ROLES and (is_in or inside is None)
         if is_shown:
             lines.append("  " * depth + said(node))
@@ -59,7 +60,7 @@ def tree(page, inside=None):
             ((line, len(list(same_lines))) for line, same_lines in itertools.groupby(lines))]
 
 
-DIALOGS = {"editor": "e", "shared": "l", "help": "?", "change": "u"}
+DIALOGS = {"shared": "l", "help": "?", "change": "u"}
 
 
 def listeners(page):
@@ -92,8 +93,19 @@ def trees(machine):
     for name, key in DIALOGS.items():
         page.press(key)
         page.wait(f"document.querySelector('#{name}').open")
-        parts += ["", f"the dialog {name}", *tree(page, name)]
+        parts += ["", f"the dialog {name}", *tree(page, "dialog")]
         machine.escape()
+    machine.keys("e")
+    parts += ["", "the editor", *tree(page, "form")]
+    machine.escape()
+    for panel in ("frames", "log", "counts"):
+        machine.show(panel)
+        parts += ["", f"the panel {panel}", *tree(page, "tabpanel")]
+    machine.show("memory")
+    page.click("#more summary")
+    parts += ["", "the menu of rare things", *tree(page, "banner")]
+    machine.leave_fields()
+    page.ask("$('more').open = false")
     parts += ["", "the page and its fields", *page.ask(f"{SEEN}.fields()")]
     parts += ["", "the menus", *page.ask(MENUS), "", "the titles", *page.ask(TITLES)]
     parts += ["", "the events", *listeners(page)]
@@ -137,16 +149,15 @@ def tab_order(page, key="Tab", held=()):
 
 
 FOCUS_ORDER = [
-    "examples", "preset", "edit", "open", "link", "theme", "keys", "runBack", "stepBack", "step",
-    "run", "pause", "runToLine", "reset", "speed", "breakpoint", "listing", "names", "radix",
-    "change",
-    "calls", "output", "input", "button", "endInput", "frames-title", "around", "address", "unit",
-    "memoryUp", "memoryDown", "log-title", "counts-title", "a",
+    "examples", "open", "save", "link", "keys", "summary", "runBack", "stepBack", "step",
+    "stepOver", "stepOut", "run", "pause", "runToOutput", "runToLine", "reset", "speed",
+    "breakpoint", "edit", "listing", "names", "radix", "change", "calls", "output", "input",
+    "button", "endInput", "tab-memory", "around", "address", "unit", "memoryUp", "memoryDown",
+    "panel-memory", "a",
 ]
 FOCUS_IN = {
-    "editor": ["text", "base", "size", "stack", "close", "take", "body", "language"],
     "shared": ["link", "close", "copy"],
-    "help": ["keys-on", "close"],
+    "help": ["first-lesson", "keys-on", "close"],
     "change": ["place", "value", "close", "set"],
 }
 
@@ -158,6 +169,9 @@ def focus(machine):
     page.ask("(() => { document.activeElement.blur(); getSelection().removeAllRanges(); })()")
     page.click_at([3, 3])
     same("the order of the focus", FOCUS_ORDER, tab_order(page))
+    page.ask("$('more').open = true; $('more').firstElementChild.focus()")
+    same("the order in the menu of rare things", ["preset", "theme", "clear"], [
+        page.press("Tab") or page.ask(FOCUS)[0] for _ in range(3)])
     for name, key in DIALOGS.items():
         machine.leave_fields()
         page.press(key)
@@ -214,23 +228,40 @@ def show_all(machine):
     yield "waiting"
     machine.edit("nothing")
     yield "mistake"
-    machine.escape()
-    machine.keys("e")
     page.choose("#language", "assembly")
     page.replace("#text", COLOURED)
     page.wait("document.querySelectorAll('#mistakes button').length === 1", 5)
+    machine.open_settings()
     yield "source"
     machine.escape()
+    yield "not loaded"
+    page.ask("rrs.openExample('ecall')")
+    machine.run()
+    page.click("#more summary")
+    yield "calls that are meant, and the menu"
+    machine.leave_fields()
+    page.ask("$('more').open = false; rrs.work.isFull = true; rrs.work.show(); null")
+    yield "no room"
+    page.ask("rrs.work.isFull = false; rrs.work.show(); null")
     machine.give(LESSON)
     page.wait("!document.getElementById('lesson').hidden")
     yield "lesson"
     machine.run()
     yield "not solved"
-    page.ask("(() => { rrs.lesson.exercise.registers = []; rrs.lesson.check(); })()")
+    page.ask("rrs.lesson.exercise.cases[0].registers = []; rrs.lesson.check()")
     yield "solved"
+    machine.give(LESSON.with_name("functions.txt"))
+    page.wait("rrs.lesson.lesson.exercises.length === 5")
+    machine.keys("HC")
+    page.wait("document.querySelectorAll('#exercise-cases li').length === 3")
+    page.ask("rrs.lesson.exercise.told[0].misses = byNames(() => []); rrs.lesson.show()")
+    yield "cases and hints"
     machine.choose("convention")
     machine.run()
-    yield "remarks"
+    for panel in ("frames", "log", "counts"):
+        machine.show(panel)
+        yield panel
+    machine.show("memory")
     for name, key in DIALOGS.items():
         page.press(key)
         page.wait(f"document.querySelector('#{name}').open")
@@ -238,7 +269,8 @@ def show_all(machine):
         machine.escape()
     page.ask("(() => { refuseBrowser('No machine.'); $('drop').hidden = false; })()")
     yield "refusal"
-    page.ask("$('refusal').hidden = $('drop').hidden = true")
+    page.ask("$('refusal').hidden = $('drop').hidden = true;"
+             " for (const id of PARTS) $(id).hidden = false; null")
 
 
 def seen_in(machine, dark):
@@ -288,7 +320,7 @@ def write(machine):
     (EXPECTED / "looks.txt").write_text("\n".join([*lines, ""]), encoding="utf-8")
 
 
-LOOKED_AT = 112
+LOOKED_AT = 127
 
 # ---- boxes and marks
 
@@ -304,7 +336,7 @@ WIDTHS = ((1360, 900), (1080, 800), (900, 900), (768, 1024), (560, 900), (430, 9
           (360, 740))
 
 # how many words, and how many bytes, a row of memory has at these widths; and whether rows fit
-IN_A_ROW = {1360: [4, 16], 1080: [4, 8], 900: [2, 8], 768: [2, 8], 560: [4, 8], 430: [2, 8],
+IN_A_ROW = {1360: [4, 16], 1080: [4, 16], 900: [4, 16], 768: [4, 16], 560: [4, 8], 430: [2, 8],
             360: [2, 8]}
 ROWS = """[1, 4].map(() => {
     rrs.act("unit");
@@ -396,10 +428,10 @@ def boxes_of_a_lesson(machine):
 
 
 def one_screen(machine):
-    """at 1366 x 768 registers, memory around sp and the listing are on one screen"""
+    """at 1366 x 650 listing, registers, console and details are on one screen, with a lesson too"""
     page = machine.page
     for height, shows in ((768, (show_fibonacci, show_source, show_lesson)),
-                          (625, (show_fibonacci, show_source))):
+                          (650, (show_fibonacci, show_source, show_lesson))):
         page.resize(1366, height)
         for show in shows:
             show(machine)
@@ -410,7 +442,81 @@ def one_screen(machine):
                 "[...document.querySelectorAll('.scroll, #listing')].filter((panel) =>"
                 " panel.scrollWidth > panel.clientWidth)"
                 ".map((panel) => panel.firstElementChild.id)"))
+            same(f"whether a line of the console has 60 letters of {what}", True, page.ask(COLUMNS))
     machine.keys("q")
+    page.resize(*SIZE)
+
+
+# how many letters a line of the console has room for
+COLUMNS = """(() => {
+    const probe = $("output").appendChild(document.createElement("span"));
+    probe.textContent = "m".repeat(60);
+    const isThere = probe.getClientRects().length === 1;
+    probe.remove();
+    return isThere;
+})()"""
+
+
+def first_look(browser):
+    """the page opens with a program that prints Hello, one row above it, and no empty panel"""
+    machine = opened(browser, Subject.page.as_uri())
+    page = machine.page
+    same("what is open", ["hello", "Hello", "Ready", "0x00010000"], [
+        *page.ask("[$('examples').value, rrs.session.name, $('heading').textContent]"),
+        machine.register("x2")])
+    for width in (1920, 1366, 768, 360):
+        page.resize(width, 650)
+        tops = page.ask("[...document.querySelectorAll('header :is(select, button, summary)')].filter("
+                        "(one) => one.checkVisibility()).map((one) => one.getBoundingClientRect().top)")
+        same(f"whether the row above is one at {width}", True, max(tops) - min(tops) < 8)
+        same(f"how many controls it has at {width}", 6, len(tops))
+    page.resize(*SIZE)
+    same("panels in which nothing stands", [], page.ask(
+        "[...document.querySelectorAll('main > section')].filter((part) =>"
+        " part.innerText.trim().split('\\n').length < 3).map((part) => part.className)"))
+    machine.run()
+    machine.says("Exit")
+    same("what it prints", "Hello\n", page.text("#output"))
+    page.send("Page.close")
+
+
+def narrow(machine):
+    """on a phone program, registers and console are one swipe apart, and Load is above the keyboard"""
+    page = machine.page
+    show_source(machine)
+    page.resize(360, 740)
+    parts = page.ask("[...document.querySelectorAll('main > section')].map((part) =>"
+                     " [part.className, part.offsetLeft, part.offsetWidth])")
+    same("the parts, each as wide as the page",
+         [[name, 360 * at, 360] for at, name in enumerate(
+             ("program", "registers", "console", "details"))], parts)
+    same("how a swipe ends", ["x mandatory", "always"], page.ask(
+        "[getComputedStyle($('main')).scrollSnapType,"
+        " getComputedStyle(document.querySelector('.registers')).scrollSnapStop]"))
+    for name, at in (("console", 2), ("program", 0), ("details", 3), ("registers", 1)):
+        page.click(f"[data-part={name}]")
+        page.wait(f"Math.round($('main').scrollLeft) === {360 * at}")
+        page.wait(f"document.querySelector('#parts [aria-current]')?.dataset.part === '{name}'")
+    page.click("[data-part=program]")
+    page.wait("$('main').scrollLeft === 0")
+    machine.keys("e")
+    # a keyboard takes the lower half
+    same("whether the button and a line of the text are above it", [True, True], page.ask(
+        "['run-text', 'text'].map((id) => $(id).getBoundingClientRect().top < 330)"))
+    machine.escape()
+    page.resize(*SIZE)
+
+
+def twice_as_large(machine):
+    """in a window that is shown twice as large the buttons take a third of it at most, and scroll by"""
+    page = machine.page
+    show_source(machine)
+    page.resize(683, 384)
+    same("how high the bar is", True, page.ask(
+        "document.querySelector('.controls').getBoundingClientRect().height < 128"))
+    page.ask("scrollTo(0, 9999)")
+    same("whether it scrolls by", True, page.ask(
+        "document.querySelector('.controls').getBoundingClientRect().bottom < 60"))
     page.resize(*SIZE)
 
 
@@ -465,7 +571,8 @@ def theme(machine):
         state.remove();
         return backgroundColor;
     })""")
-    same("the icons of the buttons", ["run-back", "back", "step", "run", "pause", "line", "reset"],
+    same("the icons of the buttons", ["run-back", "back", "step", "over", "out", "run",
+                                          "pause", "output", "line", "reset"],
          page.ask("[...document.querySelectorAll('.toolbar use')].map((use) =>"
                   " use.getAttribute('href').replace('#icon-', ''))"))
     machine.choose("fibonacci")
@@ -529,5 +636,6 @@ def pictures(machine):
     page.prefer(False)
 
 
-TRIALS = [accessibility_tree, focus, light, dark, boxes, boxes_of_a_lesson, one_screen, nothing_moves,
-          theme]
+OF_A_BROWSER = [first_look]
+TRIALS = [accessibility_tree, focus, light, dark, boxes, boxes_of_a_lesson, one_screen, narrow,
+          twice_as_large, nothing_moves, theme]

@@ -123,12 +123,17 @@ def executables(machine):
     machine.choose("gcd")
     drop(machine, "dropped", executable())
     is_executable(machine)
+    machine.choose_preset("2")
+    same("pc and sp in another memory", ["0x00010054", "0x0001ffc0"],
+         [machine.register("pc"), machine.register("x2")])
     follow(machine, link)
     is_executable(machine)
 
 
 def is_executable(machine):
     """Compares what the page shows of the executable before its first step."""
+    same("its memory", "1 MiB, sp at its end, as rrs exec has", machine.page.ask(
+        "document.getElementById('preset').selectedOptions[0].text"))
     same("pc and sp", ["0x00010054", "0x0010ffc0"],
          [machine.register("pc"), machine.register("x2")])
     same("the labels", ["_start:", "answer:"],
@@ -191,15 +196,15 @@ def editor(machine):
     same("the pc", "0x80000000", machine.register("pc"))
     machine.keys("e")
     same("what stands in the editor, and where the cursor is",
-         ["go: 1234b137, f387e1b7 ; both", "0x80000000", "65536", False, "text", 0],
+         ["go: 1234b137, f387e1b7 ; both", "0x80000000", "65536", False, "text", 29],
          page.ask("['text', 'base', 'size'].map((id) => document.getElementById(id).value)"
                   ".concat(document.getElementById('stack').checked, document.activeElement.id,"
                   " document.getElementById('text').selectionStart)"))
-    page.click("#editor [data-close]")
+    page.click("#to-listing")
     same("whether the editor is closed", False, page.ask(EDITOR_OPEN))
 
 
-EDITOR_OPEN = "document.querySelector('#editor').open"
+EDITOR_OPEN = "!document.querySelector('#editor').hidden"
 
 
 def editor_by_keys(machine):
@@ -208,6 +213,7 @@ def editor_by_keys(machine):
     machine.choose("gcd")
     machine.keys("e")
     page.replace("#text", "00100293")
+    machine.open_settings()
     page.replace("#base", "2")
     page.press("Enter")
     same("a base that is none", [True, "Memory can start at a multiple of 4 up to 0xfff00000.",

@@ -15,7 +15,7 @@ import sys
 import tempfile
 import threading
 
-from trials import chromium
+from trials import chromium, firefox
 from trials.report import same
 from trials.running import three_words
 from trials.view import WEB, Subject, opened
@@ -80,7 +80,7 @@ def policy(browser):
     elements = Elements()
     elements.feed(Subject.page.read_text(encoding="utf-8"))
     scripts, styles = elements.texts["script"], elements.texts["style"]
-    same("how many scripts and styles", (21, 1), (len(scripts), len(styles)))
+    same("how many scripts and styles", (23, 1), (len(scripts), len(styles)))
     same("the policy", POLICY.format(hashes(scripts), hashes(styles)), elements.policy)
     same("attributes that it refuses, and what is taken from elsewhere", [], elements.refused)
     page = opened(browser, Subject.page.as_uri()).page
@@ -119,29 +119,37 @@ def served(browser):
         server.server_close()
 
 
+# a memory of 64-bit addresses, which is all that a module has
+WITH_MEMORY64 = "new Uint8Array([0, 0x61, 0x73, 0x6d, 1, 0, 0, 0, 5, 3, 1, 4, 1])"
+CONTROLS = ("[...document.querySelectorAll('button, select, input, textarea, summary')].filter((one) =>"
+            " one.checkVisibility()).map(({ id, textContent }) => id || textContent)")
+
+
 def without_memory64(path):
-    """a browser without 64-bit memories gets a sentence"""
+    """a browser without 64-bit memories runs the page, and one without WebAssembly gets a sentence"""
     browser = chromium.Browser(path, ["--js-flags=--no-experimental-wasm-memory64"])
     try:
         page = browser.open(Subject.page.as_uri())
-        if page.ask("hasMemory64()"):
-            # this browser has no such switch: the page is told so instead
-            page.send("Page.addScriptToEvaluateOnNewDocument",
-                      source="WebAssembly.validate = () => false")
+        if page.ask(f"WebAssembly.validate({WITH_MEMORY64})"):
+            # this browser has no such switch: what makes modules refuses them instead
+            page.send("Page.addScriptToEvaluateOnNewDocument", source="""
+                const { instantiate } = WebAssembly;
+                WebAssembly.instantiate = (bytes, ...more) => {
+                    if (hasMemory64(bytes)) throw new Error("no 64-bit memories");
+                    return instantiate.call(WebAssembly, bytes, ...more);
+                };""" + HAS_MEMORY64)
             page.go(Subject.page.as_uri())
-        page.wait("!document.querySelector('#refusal').hidden")
-        same("the sentence", "This browser can't run the machine: its WebAssembly has no 64-bit "
-             "memories (memory64). Chromium and Chrome from 133 on, and Firefox from 134 on, have "
-             "them.", page.text("#refusal"))
-        same("whether the machine is hidden", [True, True], page.ask(
-            "['main', 'controls'].map((id) => document.getElementById(id).hidden)"))
-        page.send("Page.addScriptToEvaluateOnNewDocument",
-                  source="WebAssembly.validate = () => true;"
-                         " WebAssembly.instantiate = () => { throw new Error('no room'); }")
-        page.go(Subject.page.as_uri())
-        page.wait("!document.querySelector('#refusal').hidden")
-        same("the sentence of another failure", "The machine could not be started: no room",
-             page.text("#refusal"))
+        page.wait("document.documentElement.dataset.ready")
+        page.press("r")
+        page.wait("!rrs.session.isRunning")
+        same("what a program prints there", "Hello\n", page.text("#output"))
+        says_no(page, "delete globalThis.WebAssembly", "This browser can't run the machine: it has no "
+                "WebAssembly, or it is switched off. Chromium, Firefox and Safari of 2024 and later "
+                "have it.")
+        same("what can be pressed", [], page.ask(CONTROLS))
+        says_no(page, "globalThis.WebAssembly ??= {}; WebAssembly.instantiate = () => {"
+                " throw new Error('no room'); }", "The machine could not be started: no room")
+        same("what can be pressed then", [], page.ask(CONTROLS))
         page.send("Emulation.setScriptExecutionDisabled", value=True)
         page.go(Subject.page.as_uri())
         nodes = page.send("Accessibility.getFullAXTree")["nodes"]
@@ -149,6 +157,106 @@ def without_memory64(path):
         same("what is said without JavaScript", True, "needs JavaScript" in names)
     finally:
         browser.close()
+
+
+# whether a module has a memory of 64-bit addresses: the flags behind the count of its section 5
+HAS_MEMORY64 = """
+    function hasMemory64(bytes) {
+        let at = 8;
+        const number = () => {
+            let value = 0;
+            for (let shift = 0; ; shift += 7) {
+                const byte = bytes[at++];
+                value |= (byte & 127) << shift;
+                if (byte < 128) return value;
+            }
+        };
+        while (at < bytes.length) {
+            const kind = bytes[at++];
+            const end = number() + at;
+            if (kind === 5) return number() > 0 && (bytes[at] & 4) !== 0;
+            at = end;
+        }
+        return false;
+    }"""
+
+
+def says_no(page, before, sentence):
+    """Opens the page where a script was run before its own, and compares what it says."""
+    told = page.send("Page.addScriptToEvaluateOnNewDocument", source=before)
+    page.go(Subject.page.as_uri())
+    page.wait("!document.querySelector('#refusal').hidden")
+    same("the sentence", sentence, page.text("#refusal"))
+    page.send("Page.removeScriptToEvaluateOnNewDocument", identifier=told["identifier"])
+
+
+def in_firefox(path):
+    """Firefox: the page opens, runs a program, keeps it, and is as wide as its window"""
+    browser = firefox.Firefox(path)
+    try:
+        browser.go(Subject.page.as_uri())
+        browser.wait("document.documentElement.dataset.ready")
+        browser.press("r")
+        browser.wait("rrs && !rrs.session.isRunning")
+        same("what is printed", "Hello\n", browser.ask("document.getElementById('output').textContent"))
+        browser.press("e")
+        browser.ask("document.getElementById('text').select()")
+        browser.press(*"main:", "\ue007", *"li a0, 7", "\ue007", *"ebreak")
+        same("what is typed, with its indentation", "main:\n    li a0, 7\n    ebreak",
+             browser.ask("document.getElementById('text').value"))
+        browser.ask("document.getElementById('run-text').click()")
+        browser.wait("!rrs.session.isRunning && rrs.session.machine.steps > 0")
+        same("a0", "0x00000007", browser.ask("document.querySelector('#x10 .value').textContent"))
+        browser.go("about:blank")
+        browser.go(Subject.page.as_uri())
+        browser.wait("document.documentElement.dataset.ready")
+        same("what is kept", "main:\n    li a0, 7\n    ebreak",
+             browser.ask("document.getElementById('text').value"))
+        for width, height in ((1366, 650), (768, 800)):
+            browser.resize(width, height)
+            same(f"whether it is as wide as its window of {width}", True, browser.ask(
+                "document.documentElement.scrollWidth <= innerWidth"))
+        longest = longest_click(browser.ask)
+        return f"the longest click takes {longest:.0f} ms"
+    finally:
+        browser.close()
+
+
+# a recursion and a loop of calls, run until no more steps can be taken back
+FULL = """(async () => {
+    rrs.tryToOpen({ name: "full", language: "assembly", calls: "rars", size: 1 << 20, hasStack: true,
+        text: `main: li s1, 0
+1: li a0, 40; call f; addi s1, s1, 1; j 1b
+f: addi sp, sp, -16; sw ra, 12(sp); beqz a0, 2f; addi a0, a0, -1; call f
+2: lw ra, 12(sp); addi sp, sp, 16; ret` });
+    rrs.session.run();
+    while (rrs.session.machine.history.first === 0) await new Promise((done) => setTimeout(done, 5));
+    rrs.session.pause();
+})()"""
+
+# how long each of some clicks takes with what is drawn of it: the shortest of some times
+CLICKS = ["step", "stepBack", "stepOver", "breakpoint", "radix", "names", "unit", "details", "memoryUp"]
+MEASURE = """Math.min(...[1, 2, 3, 4, 5].map(() => {
+    const begun = performance.now();
+    rrs.act("NAME");
+    document.body.getBoundingClientRect();
+    return performance.now() - begun;
+}))"""
+LONGEST_CLICK_MS = 16
+
+
+def longest_click(ask):
+    """How long the longest click takes at a full history."""
+    ask(FULL)
+    took = {name: ask(MEASURE.replace("NAME", name)) for name in CLICKS}
+    same("clicks that take longer than they may", {}, {
+        name: time for name, time in took.items() if time > LONGEST_CLICK_MS})
+    return max(took.values())
+
+
+def clicks(machine):
+    """at a full history no click takes more than 16 ms"""
+    return f"the longest one takes {longest_click(machine.page.ask):.0f} ms"
 
 
 def told(desk):
@@ -161,7 +269,7 @@ def told(desk):
     asked = {event["params"]["request"]["url"].split("#")[0] for event in events
              if event["method"] == "Network.requestWillBeSent"}
     stored = desk.page_apart().page.ask(
-        "[document.cookie, location.protocol === 'file:' && localStorage.length,"
+        "[document.cookie, Object.keys(localStorage).filter((key) => !key.startsWith('rrs.')),"
         " sessionStorage.length]")
     return [json.dumps(event["params"])[:300] for event in wrong], asked, stored
 
@@ -175,7 +283,7 @@ def quiet(desks):
               if not url.startswith(("data:", "about:", "http://127.0.0.1:"))
               and url != Subject.page.as_uri()]
     same("what else was asked for", [], others)
-    same("what is stored", [["", 0, 0]] * len(stored), list(stored))
+    same("what else is stored", [["", [], 0]] * len(stored), list(stored))
 
 
 def joined_anywhere():

@@ -3,7 +3,7 @@
 // Runs programs in the page's machine, and tells of each, on a line, how it ended, and how many of
 // its states were other on the way back.
 //
-// usage: node --experimental-wasm-memory64 runs.js SCRIPTS MODULE PROGRAM ..
+// usage: node runs.js SCRIPTS MODULE PROGRAM ..
 
 const fs = require("node:fs");
 const { makeClock, scripts } = require("./cases/load.js");

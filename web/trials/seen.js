@@ -162,8 +162,9 @@
   const AROUND = ".text, td, th, .register, button, .head, .line, .state";
 
   /* The texts that are cut off, and those outside the page, where nothing scrolls to them. */
-  function cutTexts() {
+  function cutTexts(isHere) {
     return all(TEXTS).filter((element) => {
+      if (!isHere(element)) return false;
       const text = document.createRange();
       text.selectNodeContents(element);
       const inner = box(text);
@@ -177,8 +178,9 @@
   }
 
   /* The controls outside the page, and those that are too small for a finger. */
-  function badControls() {
+  function badControls(isHere) {
     return all("button, select, input:not([hidden])").filter((element) => {
+      if (!isHere(element)) return false;
       const { left, right, width, height } = box(element);
       const isSmall = !element.matches("[type=checkbox]") && (width < 24 || height < 24);
       return element.checkVisibility() && (left < 0 || right > innerWidth || isSmall);
@@ -195,9 +197,20 @@
       .map((other) => `${one.className} ${other.className}`));
   }
 
+  /* The parts of a narrow page lie beside each other, and each is brought into view. */
   function boxes() {
     const isWide = document.documentElement.scrollWidth > innerWidth;
-    return { cut: cutTexts(), controls: badControls(), overlaps: overlaps(), isWide };
+    const main = document.getElementById("main");
+    const cut = new Set();
+    const controls = new Set();
+    for (const part of all("main > section")) {
+      main.scrollTo({ left: part.offsetLeft - main.offsetLeft, behavior: "instant" });
+      const isHere = (element) => !element.closest("main > section") || part.contains(element);
+      for (const text of cutTexts(isHere)) cut.add(text);
+      for (const control of badControls(isHere)) controls.add(control);
+    }
+    main.scrollTo({ left: 0, behavior: "instant" });
+    return { cut: [...cut], controls: [...controls], overlaps: overlaps(), isWide };
   }
 
   /* What is higher than its box, where nothing scrolls to the rest. */
@@ -208,9 +221,11 @@
       .map((element) => element.id || element.className || element.tagName);
   }
 
-  /* What of the listing's pc, the registers and the memory at sp does not lie in the window. */
+  /* What of the listing's pc, the registers, the console and the details does not lie in the
+   * window. */
   function notInView() {
-    const parts = ["section.registers", ".line.pc", "section.memory"];
+    const parts = ["section.registers", ".line.pc", "section.console", "#input", "section.details",
+      "#memory .target"];
     return parts.filter((selector) => {
       const { top, bottom, left, right } = box(document.querySelector(selector));
       return top < 0 || bottom > innerHeight || left < 0 || right > innerWidth;

@@ -3,7 +3,7 @@
 // Assembles sources as the page does, and tells of each, on a line, its bytes, the lines and
 // addresses of its statements, as a listing has rows for them, and its mistakes.
 //
-// usage: node --experimental-wasm-memory64 sources.js SCRIPTS MODULE SOURCE ..
+// usage: node sources.js SCRIPTS MODULE SOURCE ..
 
 const fs = require("node:fs");
 const { makeClock, scripts } = require("./cases/load.js");

@@ -2,11 +2,12 @@
 the calling convention."""
 
 import pathlib
+import subprocess
 import tempfile
 
 from trials.opening import executable
 from trials.report import same
-from trials.view import WEB, js
+from trials.view import SIZE, WEB, js
 
 LESSON = WEB.parent / "examples" / "lesson" / "loops.txt"
 SOURCE = "main: li a0, 0x12345  # a number\n  call twice\n  ebreak\n.data\nx: .word 7\n.text\n" \
@@ -31,9 +32,9 @@ def assembly(machine):
     machine.says("Ready", "32 bytes from 0x00000000 on.")
     same("the listing", [
         ["main:", "lui a0, 0x00012000", "li a0, 0x12345  # a number"], ["", "addi a0, a0, 837", ""],
-        ["", "auipc ra, 0x00000008", "call twice"], ["", "jalr ra, 0x00c(ra)", ""],
+        ["", "auipc ra, 0x00000008", "call twice"], ["", "jalr ra, 12(ra)", ""],
         ["", "ebreak", "ebreak"], ["twice:", "add a0, a0, a0", "add a0, a0, a0"],
-        ["", "jalr zero, 0x000(ra)", "ret"], ["x:", "no instruction", ".word 7"],
+        ["", "jalr zero, 0(ra)", "ret"], ["x:", ".word 7", ".word 7"],
     ], [page.ask(PARTS.format(index)) for index in range(8)])
     same("what a line says", "main, 0x00000000, lui a0, 0x00012000, line 1, next", page.ask(
         "document.querySelector('#line-0').ariaLabel"))
@@ -84,6 +85,7 @@ def while_one_types(machine):
     page.choose("#language", "assembly")
     page.replace("#text", "j 0x10")
     page.wait(f"{MISTAKES}.length === 0", 5)
+    machine.open_settings()
     page.replace("#base", "80000000")
     page.press("Tab")
     page.wait(f"{MISTAKES}.length === 1", 5)
@@ -144,8 +146,7 @@ def assembly_from_elsewhere(machine):
     page.wait("rrs.session.language === 'assembly'")
     same("the program of the link", SOURCE, page.ask("rrs.session.text"))
     page.ask("history.replaceState(null, '', location.pathname)")
-    page.choose("#preset", "1")
-    machine.leave_fields()
+    machine.choose_preset("1")
     same("in another memory", ["assembly", "0x00100000"],
          [page.ask("rrs.session.language"), machine.register("x2")])
 
@@ -244,6 +245,7 @@ def language_of_a_text(machine):
     page.wait(f"{MISTAKES}.length === 1", 5)
     same("where words are chosen", "words", page.ask(LANGUAGE))
     machine.escape()
+    machine.choose("three")
     machine.keys("e")
     page.ask("$('text').value = 'li a0, 5'; $('text').dispatchEvent(new Event('input')); null")
     page.click("#take")
@@ -267,8 +269,9 @@ def lesson(machine):
          [page.text("#lesson-title"), page.text("#lesson-solved"), page.ask(CURRENT)])
     same("the exercises", ["The sum of a list", "Count down", "A function"], page.ask(
         "[...document.querySelectorAll('#exercises a')].map((link) => link.textContent)"))
-    same("its text", "Edit the program, load it, and run it. Add the numbers of the list, and "
-         "leave their sum in a0.", page.text("#exercise-about"))
+    same("its text", ["Edit the program, load it, and run it.", "Add the numbers of the list, and leave "
+                      "their sum in a0."], page.ask(
+                          "[...$('exercise-about').children].map((part) => part.textContent)"))
     machine.run()
     same("not solved", ["check end", "a0 is 0 (0x00000000), and 14 (0x0000000e) is expected."],
          [page.ask(CHECK), page.text("#exercise-check")])
@@ -369,13 +372,12 @@ def drafts(machine):
         same("no program of before", ["Nothing yet", "no instruction", "\n"], [
             page.text("#program-title"), machine.line(0)[2], page.ask("rrs.session.text")])
         machine.run()
-        same("a run of nothing", 'The output is "", and "5" is expected.',
-             page.text("#exercise-check"))
+        machine.says("To be edited", "There is no statement in it.")
+        same("a run of nothing", "0 steps", page.text("#steps"))
         page.click("#exercises li:nth-child(2) a")
         page.wait(f"{CURRENT} === 'A mistake'")
         machine.says("To be edited", "Line 1: no such instruction or directive: foo")
-        page.choose("#preset", "1")
-        machine.leave_fields()
+        machine.choose_preset("1")
         machine.says("To be edited", "Line 1: no such instruction or directive: foo")
         machine.keys("e")
         page.wait(f"{MISTAKES}.length === 1", 5)
@@ -413,6 +415,173 @@ def misses_by_names(machine):
     machine.keys("q")
 
 
+# what students hand in for exercises of functions.txt: the number, the program, and how it is graded
+READ = "main: li a7, 5\n ecall\n"
+PRINT = " li a7, 1\n ecall\n li a7, 10\n ecall\n"
+NUMBERS = " .data\nnumbers: .word 7, -3, 42, 19, 0, 41\n .text\nmain: la t0, numbers\n li t1, 6\n"
+GREATEST = ("next: lw t2, (t0)\n ble t2, a0, 1f\n mv a0, t2\n1: addi t0, t0, 4\n addi t1, t1, -1\n"
+            " bnez t1, next\n ebreak\n")
+TEXT = ' .data\ntext: .asciz "risc-v is fun"\n .space 16\n .text\nmain: la t0, text\n'
+CAPITALS = ("1: lbu t1, (t0)\n beqz t1, 2f\n li t2, 'a'\n blt t1, t2, 3f\n li t2, {last}\n"
+            " bgt t1, t2, 3f\n addi t1, t1, -32\n sb t1, (t0)\n3: addi t0, t0, 1\n j 1b\n"
+            "2: la a0, text\n li a7, 4\n ecall\n li a7, 10\n ecall\n")
+FACT = ("main: li s0, 77\n li a7, 5\n ecall\n call fact\n" + PRINT + "fact: li t0, 2\n blt a0, t0, 1f\n"
+        " addi sp, sp, -16\n sw ra, (sp)\n {save}\n addi a0, a0, -1\n call fact\n {restore}\n"
+        " lw ra, (sp)\n addi sp, sp, 16\n ret\n1: li a0, 1\n ret\n")
+SUM = "main: li t0, 1\n li t1, 0\n li t2, 10\nloop: {test}\n add t1, t1, t0\n addi t0, t0, 1\n j loop\n" \
+    "done: mv a0, t1\n" + PRINT
+HANDED_IN = {
+    "ada": (1, READ + " add a0, a0, a0\n" + PRINT, "right, 3 of 3 cases"),
+    "bob": (1, READ + " slli a0, a0, 1\n" + PRINT, "right, 3 of 3 cases"),
+    "cem": (1, "main: li a0, 10\n" + PRINT, "not right, 1 of 3 cases"),
+    "dan": (2, NUMBERS + " lw a0, (t0)\n" + GREATEST, "right, 3 of 3 cases"),
+    # the first output is right by chance
+    "eva": (2, NUMBERS + " li a0, 0\n" + GREATEST, "not right, 2 of 3 cases"),
+    "fay": (2, NUMBERS.replace("li t1, 6", "li t1, 5") + " lw a0, (t0)\n" + GREATEST,
+            "not right, 2 of 3 cases"),
+    "gus": (3, TEXT + CAPITALS.format(last="'z'"), "right, 2 of 2 cases"),
+    "hal": (3, TEXT + CAPITALS.format(last="'{'"), "not right, 1 of 2 cases"),
+    "ida": (4, FACT.format(save="sw a0, 4(sp)", restore="lw t1, 4(sp)\n mul a0, a0, t1"),
+            "right, 3 of 3 cases"),
+    "jon": (4, FACT.format(save="mv s0, a0", restore="mul a0, a0, s0"), "not right, 2 of 3 cases"),
+    "kim": (5, SUM.format(test="bgt t0, t2, done"), "right, 1 of 1 cases"),
+    "lea": (5, SUM.format(test="beq t0, zero, done"), "not right, 0 of 1 cases"),
+}
+FUNCTIONS = LESSON.with_name("functions.txt")
+
+
+def grade(*words):
+    run = subprocess.run([WEB / "grade", *words], capture_output=True, text=True, check=False)
+    return run.returncode, run.stdout.splitlines(), run.stderr.strip()
+
+
+def graded():
+    """web/grade: twelve programs that were handed in, of which some are wrong in one case alone"""
+    with tempfile.TemporaryDirectory() as name:
+        folder = pathlib.Path(name)
+        for student, (_, text, _) in HANDED_IN.items():
+            (folder / f"{student}.s").write_text(text)
+        for number in range(1, 6):
+            students = [each for each, (of, *_) in HANDED_IN.items() if of == number]
+            paths = [folder / f"{each}.s" for each in students]
+            status, lines, _ = grade(FUNCTIONS, str(number), *paths)
+            wanted = [f"{path}: {HANDED_IN[path.stem][2]}" for path in paths]
+            same(f"the grades of exercise {number}", wanted,
+                 [line for line in lines if not line.startswith(" ")])
+            are_right = all(": right" in line for line in wanted)
+            same("its status", 0 if are_right else 1, status)
+        _, lines, _ = grade(FUNCTIONS, "The greatest number", folder / "eva.s")
+        same("what is told of a case", "  all below zero: a0 is 0 (0x00000000), and -3 (0xfffffffd) is "
+             "expected.", lines[1])
+        _, lines, _ = grade(FUNCTIONS, "5", folder / "lea.s")
+        same("of a program without an end", "  case 1: It has not ended after 1,000 steps.", lines[1])
+        _, lines, _ = grade(FUNCTIONS, "4", folder / "jon.s")
+        same("a remark", True, any(line.startswith("  remark: fact leaves s0 changed") for line in lines))
+        handed = folder / "handed.txt"
+        handed.write_text("handed in: L\n\nexercise 1: Twice a number\ntry: 0 of 3 right\n| nop\n"
+                          "try: 3 of 3 right\n" + "".join(f"| {line}\n" for line in
+                                                           HANDED_IN["ada"][1].splitlines()))
+        same("what was handed in by the page", [f"{handed}: right, 3 of 3 cases, the latest of 2 tries"],
+             grade(FUNCTIONS, "1", handed)[1])
+        (folder / "bad.s").write_text("main: foo\n")
+        same("what can't be read", [f"{folder / 'bad.s'}: not read: Line 1: no such instruction or "
+                                    "directive: foo"], grade(FUNCTIONS, "1", folder / "bad.s")[1])
+        (folder / "heading.txt").write_text("# Week 1\n" + FUNCTIONS.read_text())
+        for words, why in (
+            ((FUNCTIONS, "9", folder / "ada.s"), f"web/grade: {FUNCTIONS} has no exercise 9"),
+            ((folder / "heading.txt", "1", folder / "ada.s"), f"web/grade: {folder / 'heading.txt'}: A "
+             "lesson begins with its line lesson: and this one has other lines above it."),
+            ((FUNCTIONS, "1"), "web/grade: usage: web/grade LESSON EXERCISE FILE .."),
+            ((FUNCTIONS, "1", folder / "none.s"), f"web/grade: {folder / 'none.s'}: no such file"),
+        ):
+            same("what is refused", (2, why), (lambda got: (got[0], got[2]))(grade(*words)))
+    return f"{len(HANDED_IN)} programs"
+
+
+SOLVED = {number: text for number, text, grade in HANDED_IN.values() if grade.startswith("right")}
+CASES = "[...document.querySelectorAll('#exercise-cases li')].map((item) => item.textContent)"
+
+
+def lesson_of_cases(machine):
+    """a lesson of five exercises with cases and hints is worked through by keys, and handed in"""
+    page = machine.page
+    machine.give(FUNCTIONS)
+    page.wait("!document.getElementById('lesson').hidden")
+    same("the text of an exercise", [["P", "P", "PRE", "P"], "ecall", "Ctrl+Enter"], page.ask(
+        "[[...$('exercise-about').children].map(({ tagName }) => tagName),"
+        " $('exercise-about').querySelector('pre').textContent.split('\\n')[1],"
+        " $('exercise-about').querySelector('code').textContent]"))
+    machine.keys("H")
+    same("a hint", ["add a0, a0, a0 doubles a0."], page.ask(
+        "[...document.querySelectorAll('#exercise-hints li')].map((item) => item.textContent)"))
+    write_text(machine, HANDED_IN["cem"][1])
+    page.wait("$('exercise-check').textContent.startsWith('1 of 3')")
+    same("what is told of the cases", [
+        "five: right", 'nothing: The output is "10", and "0" is expected.',
+        "below zero: not right (its input is hidden)"], page.ask(CASES))
+    for number in range(1, 6):
+        if number > 1:
+            machine.keys("j")
+            page.press("Tab")
+            page.press("Enter")
+            page.wait(f"rrs.lesson.number === {number}")
+        write_text(machine, SOLVED[number])
+        page.wait(f"$('lesson-solved').textContent === '{number} of 5 solved'")
+    same("the verdict", "check done", page.ask(CHECK))
+    with tempfile.TemporaryDirectory() as name:
+        page.browser.send("Browser.setDownloadBehavior", behavior="allow", downloadPath=name)
+        machine.leave_fields()
+        machine.keys("D")
+        path = pathlib.Path(name) / "Functions-arrays-and-strings.handed-in.txt"
+        page.browser.patience(path.exists)
+        same("what is handed in of the first", (0, [
+            f"{path}: right, 3 of 3 cases, the latest of 2 tries"]), grade(FUNCTIONS, "1", path)[:2])
+    page.send("Emulation.setDeviceMetricsOverride", width=360, height=740, deviceScaleFactor=1,
+              mobile=True)
+    same("whether it is as wide as a phone", True, page.ask(
+        "document.documentElement.scrollWidth <= innerWidth"))
+    page.resize(*SIZE)
+    machine.leave_fields()
+    machine.keys("q")
+
+
+def first_lesson(machine):
+    """Help has a lesson to begin with, which is saved, opened, solved, handed in and graded"""
+    page = machine.page
+    machine.choose("three")
+    with tempfile.TemporaryDirectory() as name:
+        page.browser.send("Browser.setDownloadBehavior", behavior="allow", downloadPath=name)
+        machine.keys("?")
+        page.click("#first-lesson")
+        path = pathlib.Path(name) / "lesson.txt"
+        page.browser.patience(path.exists)
+        machine.escape()
+        machine.give(path)
+        page.wait("$('lesson-title').textContent === 'My lesson'")
+        write_text(machine, READ + " mv t0, a0\n ecall\n add a0, a0, t0\n" + PRINT)
+        page.wait("$('lesson-solved').textContent === '1 of 2 solved'")
+        machine.leave_fields()
+        machine.keys("D")
+        handed = pathlib.Path(name) / "My-lesson.handed-in.txt"
+        page.browser.patience(handed.exists)
+        same("its grade", (0, [f"{handed}: right, 2 of 2 cases, the latest of 1 tries"]),
+             grade(path, "1", handed)[:2])
+    machine.keys("q")
+
+
+def write_text(machine, text):
+    """Writes a program, and has it run, by keys alone."""
+    page = machine.page
+    page.press("e")
+    page.wait("document.activeElement.id === 'text'")
+    page.press("a", "Ctrl")
+    page.send("Input.dispatchKeyEvent", type="rawKeyDown", key="a", modifiers=2,
+              windowsVirtualKeyCode=65, commands=["selectAll"])
+    page.type(text)
+    page.press("Enter", "Ctrl")
+    page.wait("!rrs.session.isRunning && document.getElementById('editor').hidden")
+
+
 REMARKS = "[...document.querySelectorAll('#remarks li')].map((item) => item.textContent)"
 
 
@@ -440,5 +609,5 @@ def convention(machine):
 
 TRIALS = [
     assembly, while_one_types, long_sources, beside_scroll_bars, language_of_a_text,
-    assembly_from_elsewhere, lesson, drafts, misses_by_names, convention,
+    assembly_from_elsewhere, lesson, lesson_of_cases, first_lesson, drafts, misses_by_names, convention,
 ]

@@ -3,6 +3,7 @@
 import json
 import pathlib
 
+from trials.examples import PROGRAMS
 from trials.report import same
 
 WEB = pathlib.Path(__file__).resolve().parent.parent
@@ -29,11 +30,8 @@ class Machine:
         self.page = page
 
     def choose(self, example):
-        """Chooses a program of the menu, and leaves the menu."""
-        if self.page.ask("document.querySelector('#examples').value") == example:
-            self.keys("x")
-            self.page.ask("rrs.openExample(document.querySelector('#examples').value)")
-        self.page.choose("#examples", example)
+        """Opens a program of the trials."""
+        self.page.ask(f"rrs.closeLesson(); rrs.open({js(PROGRAMS[example])}, {{}}); null")
         self.leave_fields()
 
     def clean(self):
@@ -92,25 +90,43 @@ class Machine:
 
     def edit(self, text, base=None):
         """Types a program into the editor, and loads it."""
+        self.leave_fields()
         self.page.press("e")
         self.page.replace("#text", text)
         if base is not None:
+            self.open_settings()
             self.page.replace("#base", base)
         self.page.click("#take")
 
+    def open_settings(self):
+        """Shows what the editor has of the memory."""
+        self.page.ask("document.getElementById('settings').open = true")
+
     def escape(self):
-        """Leaves a dialog by its key."""
+        """Leaves a dialog, or the editor, by its key."""
         self.page.press("Escape")
         self.wait_closed()
 
     def wait_closed(self):
-        """Waits until no dialog is open. The focus leaves it when the page is drawn next."""
+        """Waits until no dialog is open, and no editor. The focus leaves a dialog when the page is
+        drawn next."""
         self.page.wait("document.querySelector('dialog[open]') === null"
-                       " && !document.activeElement.closest('dialog')", 5)
+                       " && !document.activeElement.closest('dialog, #editor')"
+                       " && document.getElementById('editor').hidden", 5)
+        self.leave_fields()
+
+    def show(self, panel):
+        """Shows one of the panels of details."""
+        self.page.ask(f"rrs.tabs.show({js(panel)})")
 
     def take_memory_of_exec(self):
         """Takes 1 MiB of memory with sp at its end, as rrs exec has it."""
-        self.page.choose("#preset", "1")
+        self.choose_preset("1")
+
+    def choose_preset(self, number):
+        """Chooses a memory in the menu of rare things."""
+        self.page.ask("document.getElementById('more').open = true")
+        self.page.choose("#preset", number)
         self.leave_fields()
 
     def is_first_state(self):
@@ -120,6 +136,11 @@ class Machine:
 CLEAN = """(() => {
     rrs.session.stop();
     for (const dialog of document.querySelectorAll("dialog[open]")) dialog.close();
+    rrs.editor.close();
+    $("settings").open = false;
+    rrs.work.unsaved.clear();
+    $("more").open = false;
+    rrs.tabs.show("memory");
     document.activeElement.blur();
     document.documentElement.removeAttribute("data-theme");
     document.getElementById("keys-on").checked = true;
@@ -147,9 +168,20 @@ FIRST_STATE = """(() => {
 })()"""
 
 
-def opened(browser, address):
-    """A page that was opened anew, and has started."""
-    page = browser.open(address, *SIZE)
+# what the page has kept of before goes, and what other pages keep stays
+FORGET = """try {
+    for (const key of Object.keys(localStorage)) {
+        if (key.startsWith("rrs.")) localStorage.removeItem(key);
+    }
+} catch {}"""
+
+
+def opened(browser, address, keeps=False):
+    """A page that was opened anew, and has started: with nothing kept of before, unless it keeps."""
+    page = browser.open("about:blank", *SIZE)
+    if not keeps:
+        page.send("Page.addScriptToEvaluateOnNewDocument", source=FORGET)
+    page.go(address)
     page.wait("document.documentElement.dataset.ready")
     return Machine(page)
 

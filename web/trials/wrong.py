@@ -6,7 +6,7 @@ import subprocess
 import tempfile
 
 import join
-from trials import actions, generated, looks, policy, teaching
+from trials import actions, changing, generated, keeping, looks, policy, teaching
 from trials.report import Differs, Report, differing_counts, same
 from trials.together import Desk, Trial, make_all
 from trials.view import EXPECTED, WEB, Subject
@@ -31,6 +31,14 @@ IN_NODE = [
     ("convention.js", "if (after !== before && frame.isPlain)", "if (after < before)"),
     ("lesson.js", "if (value === wanted) continue;", "if (value >= wanted) continue;"),
     ("executable.js", "const start = at - where.distance;", "const start = at;"),
+    ("convention.js", "&& this.top?.returns === this.returns;", ";"),
+    ("convention.js", "if (history.lowest < this.state.step) this.goBack(history.lowest);", ""),
+    ("records.js", "this.first += STEPS_DROPPED;", "this.first++;"),
+    ("session.js", "&& depthOf(this.machine) > this.depth", ""),
+    ("session.js", "Math.floor((now - this.nextAt) / each) + 1", "1"),
+    ("wording.js", "if (!machine.hasStack && machine", "if (machine.hasStack && machine"),
+    ("lesson.js", "machine.kit.bytes.set(bytes, offset);", ""),
+    ("lesson.js", "if (isBelow && !isLesson(text))", "if (isBelow && isLesson(text))"),
 ]
 IN_BROWSER = [
     (actions.by_each_way, "page.js", '"click", () => this.act(', '"click", () => void ('),
@@ -41,7 +49,22 @@ IN_BROWSER = [
     (looks.focus, "style.css", "outline: 2px solid var(--accent)", "outline: none"),
     (teaching.while_one_types, "editor.js", "column - 1, Math.max(", "column, Math.max("),
     (policy.policy, "index.html", "default-src 'none'", "default-src 'self'"),
+    (keeping.text_stays, "page.js", "if (mistake) this.editor.goToMistake();",
+     "if (mistake) this.editor.fill();"),
+    (keeping.lesson_stays, "work.js", "exercise.isSolved = isSolved === true;", ""),
+    (keeping.cleared, "keeping.js", "if (key.startsWith(KEY_START)) storage", "storage"),
+    (keeping.saved, "work.js", "this.unsaved.delete(this.subject);", ""),
+    (keeping.panel, "editor.js", 'if (key === "Tab") this', 'if (key === "F9") this'),
+    (changing.calls_meant, "page.js", "this.session.setCalls(this.session.notice.calls);", ""),
+    (looks.first_look, "style.css", ".menus {\n  display: flex;", ".menus {\n  display: block;"),
+    (looks.one_screen, "style.css", "height: 100vh; height: 100dvh;", "height: 60rem;"),
+    (looks.narrow, "style.css", "scroll-snap-type: x mandatory;", ""),
+    (looks.twice_as_large, "style.css", "  .controls { position: static; }\n", ""),
+    (teaching.lesson_of_cases, "views.js", "const why = isHidden ?", "const why = false ?"),
 ]
+
+# those that are given a browser, and no page
+OF_A_BROWSER = (policy.policy, *keeping.OF_A_BROWSER, *looks.OF_A_BROWSER)
 
 
 def page_with(folder, name, old, new):
@@ -97,7 +120,7 @@ def self_test(path):
     report = Report()
     with tempfile.TemporaryDirectory() as name:
         edits = [(generated.cases, None, edit) for edit in IN_NODE] + [
-            (trial, Desk.browser if trial is policy.policy else Desk.page_apart, edit)
+            (trial, Desk.browser if trial in OF_A_BROWSER else Desk.page_apart, edit)
             for trial, *edit in IN_BROWSER]
         trials = [Trial(counts), Trial(status), *(
             search(number, pathlib.Path(name), *edit) for number, edit in enumerate(edits))]

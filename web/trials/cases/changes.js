@@ -172,6 +172,47 @@ function frames(report, page, kit) {
   report.same("a call by the last word", [0xfffffffc, 0], [page.framesOf(last)[0]]
     .flatMap(({ from, back }) => [from, back]));
   deepCalls(report, page, kit);
+  followed(report, page, kit);
+}
+
+/* What is known of calls and remarks, as one text. */
+const callsOf = (page, machine) => JSON.stringify([page.framesOf(machine), page.remarksOf(machine)]);
+
+/* A program of calls that change s0 and read t0, and a loop that goes on. */
+const CALLING = `main: li s1, 0
+1: mv a0, s1; andi a0, a0, 7; li t0, 3; call f; add a1, a1, t0; addi s1, s1, 1; j 1b
+f: addi sp, sp, -16; sw ra, 12(sp); mv s0, a0; beqz a0, 2f; addi a0, a0, -1; call f
+2: lw ra, 12(sp); addi sp, sp, 16; ret`;
+
+/* Frames and remarks are those that all the steps give, wherever the steps go, and no remark is lost
+ * where the steps that it is of have no record any more. */
+function followed(report, page, kit) {
+  const session = new page.Session(new page.Machine(kit));
+  session.open({ name: "p", text: CALLING, language: "assembly", hasStack: true });
+  const { machine } = session;
+  const stops = new Uint8Array(16384);
+  const after = new Map();
+  for (const steps of [3, 20000, 20001, 40000, 65536]) {
+    machine.run(steps - machine.steps, stops);
+    after.set(steps, callsOf(page, machine));
+  }
+  report.same("remarks there", true, after.get(65536).includes('"kind":"kept"'));
+  for (const steps of [40000, 20001, 20000, 3, 20001, 3, 40000, 65536]) {
+    const { length } = machine.history;
+    if (steps < length) machine.runBack(length - steps, stops);
+    else for (; machine.steps < steps;) machine.step();
+    report.same(`calls and remarks at ${steps}`, after.get(steps), callsOf(page, machine));
+  }
+  while (machine.steps < page.RECORDS + 9) machine.run(page.RECORDS + 9 - machine.steps, stops);
+  const { history } = machine;
+  const kinds = () => page.remarksOf(machine).map(({ kind }) => kind);
+  report.same("steps that have no record", [page.STEPS_DROPPED, ["lost", "kept"]],
+    [history.first, kinds()]);
+  machine.runBack(5, stops);
+  session.change("s0", "77", 4);
+  while (machine.runBack(99999, stops) === null);
+  report.same("remarks whose cause has no record", [page.STEPS_DROPPED, ["lost", "kept"]],
+    [machine.steps, kinds()]);
 }
 
 /* Very many calls, of which the outermost are lost, and a deep recursion, which keeps each. */

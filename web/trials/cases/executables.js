@@ -56,12 +56,14 @@ async function opened(page, kit, bytes) {
 
 async function programs(report, page, kit) {
   const program = await opened(page, kit, executable());
-  const { text, ...rest } = program;
+  const { text, code, ...rest } = program;
   report.same("the memory of an executable",
     { language: "words", base: 0x10000, size: 1 << 20, hasStack: true, calls: "linux" }, rest);
   const { words, labels, entry } = page.parseProgram(text, 1 << 20);
   report.same("its words", [1025, 0x464c457f, CODE, 0, 30],
     [words.length, words[0], words.slice(29, 40), words[1023], words[1024]]);
+  report.same("its words that are read-only", [40, 1, 0],
+    [code.reduce((sum, one) => sum + one), code[29], code[1024]]);
   report.same("its labels", { 29: ["_start"], 33: ["twice"], 38: ["twice.00010098"] },
     Object.fromEntries(labels));
   report.same("where it starts", HEADERS, entry);

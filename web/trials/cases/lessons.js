@@ -4,6 +4,8 @@
 
 const { Report } = require("./report.js");
 
+const plain = (about) => about.map(({ text }) => text).join("|");
+
 const LESSON = `lesson: Loops
 Each exercise is a loop.
 
@@ -33,14 +35,16 @@ program:
 function lessons(report, page) {
   const { title, about, exercises: [sum, words, ...others] } = page.parseLesson(LESSON);
   report.same("the lesson", ["Loops", "Each exercise is a loop.", 0],
-    [title, about, others.length]);
+    [title, plain(about), others.length]);
   report.same("the first exercise", ["The sum", "Add the numbers at numbers.", "6\nend",
     [[10, 6], [11, 0xffffffff]], "rars", 262144, true, "assembly",
     "    nop\nlesson: no line of the lesson\n"],
-  [sum.title, sum.about, sum.output, sum.registers, sum.calls, sum.size, sum.hasStack, sum.language,
+  [sum.title, plain(sum.about), sum.cases[0].output, sum.cases[0].registers, sum.calls, sum.size,
+    sum.hasStack, sum.language,
     sum.program]);
   report.same("the second", ["Words", "", "", [], "linux", 65536, false, "words", "13\n"],
-    [words.title, words.about, words.output, words.registers, words.calls, words.size,
+    [words.title, plain(words.about), words.cases[0].output, words.cases[0].registers, words.calls,
+      words.size,
       words.hasStack, words.language, words.program]);
   const none = "the exercise has neither an output nor a register that is expected";
   report.cases("what is wrong with a lesson", [
@@ -53,7 +57,8 @@ function lessons(report, page) {
     ["exercise: b\nregister: a0 = x", "Line 2: a register and a number stand here, as a0 = 31"],
     ["exercise: b\ncalls: dos", "Line 2: the calls are linux, rars, venus"],
     ["exercise: b\nlanguage: c", "Line 2: the language is assembly or words"],
-    ["exercise: b\nmemory: 5", "Line 2: the memory is one of 64 KiB, 256 KiB, 1 MiB"],
+    ["exercise: b\nmemory: 5", "Line 2: the memory is one of 64 KiB, 256 KiB, 1 MiB, or "
+      + "label = numbers"],
     ["exercise: b\nstack: 5", "Line 2: the stack can start at the end"],
     ["lesson: a\ncalls: rars",
       "Line 2: calls: stands behind the line exercise: that it belongs to"],
@@ -65,12 +70,113 @@ function lessons(report, page) {
   report.cases("texts that say nothing", [
     ["Task: print 5."], ["Note: see output: below."], ["The output: 5"], ["put: 5"], ["out: 5"],
     ["oputtu: 5"], ["outputting: 5"], ["output"], ["s: 1"], [": 1"],
-  ].map(([text]) => [text, text]), (text) => page.parseLesson(
-    `exercise: b\n${text}\nregister: a0 = 1`).exercises[0].about);
+  ].map(([text]) => [text, text]), (text) => plain(page.parseLesson(
+    `exercise: b\n${text}\nregister: a0 = 1`).exercises[0].about));
   report.cases("whether a text is a lesson", [
     [LESSON, true], ["\n  lesson: a", true], ["# lesson: a", false], ["nop", false], ["", false],
     ["lesson", false],
   ], (text) => page.isLesson(text));
+}
+
+const CASES = `lesson: Cases
+exercise: Sums
+One \`line\`
+goes on.
+
+    li a0, 5
+      nop
+
+Another.
+hint: First.
+hint: Second.
+limit: 2,000 steps
+register: s0 = 7
+case: one
+input: "1\\n"
+input: "2\\n"
+memory: list = 1, -2, 0x10
+output: "3"
+hidden case: two
+memory: name = "Ada\\u0000"
+register: a0 = 9
+output: ""
+program:
+nop
+`;
+
+function cases(report, page) {
+  const { exercises: [{ about, hints, limit, cases: [one, two, ...others] }] } =
+    page.parseLesson(CASES);
+  report.same("paragraphs and code", [
+    [false, "One `line` goes on."], [true, "li a0, 5\n  nop"], [false, "Another."],
+  ], about.map(({ isCode, text }) => [isCode, text]));
+  report.same("hints and the limit", [["First.", "Second."], 2000], [hints, limit]);
+  const seen = ({ title, isHidden, input, memory, output, registers }) => [title, isHidden, input,
+    memory.map(({ label, bytes }) => [label, [...bytes]]), output, registers];
+  report.same("the first case", ["one", false, "1\n2\n",
+    [["list", [1, 0, 0, 0, 254, 255, 255, 255, 16, 0, 0, 0]]], "3", [[8, 7]]], seen(one));
+  report.same("the second", ["two", true, "", [["name", [65, 100, 97, 0]]], "", [[8, 7], [10, 9]],
+    0], [...seen(two), others.length]);
+  report.cases("what is wrong with a case", [
+    ["input: 5", 'the input stands in quotation marks, as "5\\n"'],
+    ["memory: list = x", "numbers or a text stand behind the label, as list = 1, 2, -3 or "
+      + 'name = "Ada"'],
+    ["limit: 0", "the limit is a number of steps up to 100,000,000"],
+    ["limit: many", "the limit is a number of steps up to 100,000,000"],
+    ["Case: one", '"Case" is almost "case:", which begins its line, in small letters. A text begins '
+      + "with another word"],
+  ].map(([line, why]) => [`exercise: b\nregister: a0 = 1\n${line}`, `Line 3: ${why}`]),
+  (text) => Report.refused(() => page.parseLesson(text)));
+  const { exercises } = page.parseLesson(page.FIRST_LESSON);
+  report.same("the lesson to begin with", [2, [2, 1, 0], [[false, true], [false, true]]], [
+    exercises.length, [exercises[0].cases.length, exercises[0].hints.length, exercises[1].hints.length],
+    exercises.map((each) => each.cases.map(({ isHidden }) => isHidden))]);
+  report.cases("what stands above the line lesson:", [
+    ["# Week 5\nlesson: a\nexercise: b\nregister: a0 = 1\n", page.IS_BELOW], ["nop", undefined],
+    ["lesson: a\nexercise: b", undefined],
+  ], (text) => Report.refused(() => page.refuseHeading(text)));
+}
+
+const TWICE = `exercise: Twice
+calls: rars
+limit: 500
+register: a1 = 5
+memory: n = 5
+case:
+input: "4\\n"
+output: "8"
+hidden case: more
+input: "-1\\n"
+output: "-2"
+program:
+`;
+
+/* What is missed of programs in the cases of an exercise. */
+async function judged(report, page, kit) {
+  const session = new page.Session(new page.Machine(kit));
+  const { exercises: [exercise] } = page.parseLesson(TWICE);
+  const told = async (text) => {
+    const all = await page.judge(session, exercise, { text, language: "assembly" });
+    return [page.rightOf(all), all.map(({ misses }) => misses.get(page.NAMES.abi).join(" "))];
+  };
+  const end = "; li a7, 1; ecall; la a1, n; lw a1, (a1); li a7, 10; ecall\n.data\nn: .word 0";
+  const both = (why) => [0, [why, why]];
+  for (const [text, wanted] of [
+    [`li a7, 5; ecall; add a0, a0, a0${end}`, [2, ["", ""]]],
+    [`li a0, 8${end}`, [1, ["", 'The output is "8", and "-2" is expected.']]],
+    ["nop\nl: j l\n.data\nn: .word 0", both("It has not ended after 500 steps.")],
+    ["nop", both("The program has no label n with so much memory behind it.")],
+    ["li a7, 5; ecall; li a7, 5; ecall\n.data\nn: .word 0", both("It ended by: Call refused. The "
+      + "ecall at 0x0000000c could not be served: the input has ended.")],
+  ]) report.same(`what is missed by ${text.slice(0, 20)}`, wanted, await told(text));
+  const wrong = await told("foo").catch((error) => error.message);
+  report.same("a program that can't be read", "Line 1: no such instruction or directive: foo", wrong);
+  exercise.tries = [{ text: "a: nop\n", right: 0, of: 2 }, { text: "b\n\n|c", right: 2, of: 2 }];
+  const text = page.handedIn({ title: "Lesson", exercises: [{ title: "One" }, exercise] });
+  report.same("what is handed in", "handed in: Lesson\n\nexercise 1: One\n\nexercise 2: Twice\n"
+    + "try: 0 of 2 right\n| a: nop\ntry: 2 of 2 right\n| b\n| \n| |c\n", text);
+  report.same("and what is read of it", [[], ["a: nop\n", "b\n\n|c\n"], null],
+    [page.triesIn(text, 1), page.triesIn(text, 2), page.triesIn("nop", 1)]);
 }
 
 async function links(report, page) {
@@ -150,6 +256,10 @@ function convention(report, page, kit) {
       + "0x00000014 uses the ra that the call of 0x0000001c left: ra has to be saved before a "
       + "call."]],
     ["jal t0, 1f\nebreak\n1: addi sp, sp, -16; jr t0", []],
+    // arguments that a function with a variable number of them saves, and one that is lost
+    ["jal g\njal f\nebreak\nf: sw a2, (s1); sw a7, (s1); ret\ng: ret\n.data\nx: .word 0", []],
+    ["la s1, x\njal f\nebreak\nf: mv s0, ra; jal g; sw a2, (s1); jr s0\ng: ret\n.data\nx: .word 0",
+      ["a2 is read at 0x00000018, and the call of 0x00000020 before may have changed it."]],
   ], told);
   const many = `li t1, 1\n${"jal f\nmv a0, t1\n".repeat(25)}ebreak\nf: ret`;
   report.same("how many remarks are kept", 20, page.remarksOf(ran(page, kit, many)).length);
@@ -173,6 +283,8 @@ function convention(report, page, kit) {
 async function tryLessons(report, page, kit) {
   report.begin("lessons");
   lessons(report, page);
+  cases(report, page);
+  await judged(report, page, kit);
   await links(report, page);
   checks(report, page, kit);
   report.begin("convention");

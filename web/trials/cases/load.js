@@ -6,23 +6,11 @@ const fs = require("node:fs");
 const path = require("node:path");
 
 const SCRIPTS = [
-  "kit", "terminal", "records", "actions", "machine", "linux", "calls", "frames", "convention", "assembly",
-  "colours", "program", "executable", "lesson", "examples", "wording", "session", "views", "editor",
+  "kit", "terminal", "records", "actions", "machine", "linux", "calls", "frames", "convention",
+  "assembly", "colours", "program", "executable", "lesson", "examples", "wording", "keeping", "session",
+  "views", "editor",
 ];
 const DEFINED = /^(?:const|class|function|async function) ([A-Za-z_]\w*)/gm;
-
-/* Before Node 24 a memory with 64-bit addresses counts its pages by numbers, and now by BigInts. */
-function growByNumbers() {
-  const { grow } = WebAssembly.Memory.prototype;
-  WebAssembly.Memory.prototype.grow = function growBy(pages) {
-    try {
-      return grow.call(this, pages);
-    } catch (error) {
-      if (!(error instanceof TypeError)) throw error;
-      return grow.call(this, Number(pages));
-    }
-  };
-}
 
 /** What the scripts of a folder define, over a clock: `{ now, later }`, which stand for
  * performance.now and setTimeout. */
@@ -49,7 +37,5 @@ function makeClock() {
   };
   return clock;
 }
-
-growByNumbers();
 
 module.exports = { makeClock, scripts };

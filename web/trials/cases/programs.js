@@ -160,36 +160,39 @@ async function links(report, page) {
   ]) report.same(`the link ${hash.slice(0, 60)}`, wanted, await followed(page, hash));
 }
 
-/* Each program of the menu is one, and ends as its sentence says. */
+/* How each program of the menu ends, and what it prints. */
+const ENDS = {
+  hello: ["exit 0", "Hello\n"], sum: ["exit 0", "31"], max: ["exit 0", "42"], length: ["exit 0", "6"],
+  factorial: ["exit 0", "120"], sort: ["exit 0", "1 1 2 3 4 5 6 9 "], list: ["exit 0", "10\n20\n30\n"],
+  question: ["waiting", "A number, or 0 to end: "], port: ["exit 0", "Hello, RISC-V!\n"],
+  linux: ["exit 0", "Hello\n"], million: ["exit 0", ""], convention: ["exit 0", "0"],
+  words: ["exit 0", ""], recursion: ["fault STORE", ""], exit: ["fault ILLEGAL", ""],
+  stack: ["fault STORE", ""], load: ["fault LOAD", ""], misaligned: ["fault MISALIGNED", ""],
+  jump: ["fault FETCH", ""], code: ["fault STORE", ""], ecall: ["fault ECALL", ""],
+};
+
 function examples(report, page, kit) {
   const { EXAMPLES, FAULT } = page;
-  const fault = (kind, address, word = 0) => ({ reason: "fault", kind, address, word });
-  const exit = (status) => ({ reason: "exit", status });
-  const ends = {
-    three: fault(FAULT.ILLEGAL, 12), sum: exit(3 + 1 + 4 + 1 + 5 + 9 + 2 + 6), gcd: exit(21),
-    port: exit(0), console: { reason: "waiting" }, fibonacci: exit(55), primes: exit(168),
-    million: exit(0), sort: exit(0), convention: exit(0),
-    illegal: fault(FAULT.ILLEGAL, 4, 0xffffffff),
-    fetch: fault(FAULT.FETCH, 0x20000000), load: fault(FAULT.LOAD, 0x20000000),
-    store: fault(FAULT.STORE, 0x20000008), misaligned: fault(FAULT.MISALIGNED, 0x102),
-    jump: fault(FAULT.MISALIGNED, 0x102), ecall: fault(FAULT.ECALL, 4),
-    ebreak: fault(FAULT.EBREAK, 4),
-  };
-  report.same("the programs of the menu", Object.keys(ends), EXAMPLES.map(({ id }) => id));
-  report.same("those that fault", Object.keys(ends).slice(10),
+  report.same("the programs of the menu", Object.keys(ENDS), EXAMPLES.map(({ id }) => id));
+  report.same("those that fault, last", Object.keys(ENDS).slice(13),
     EXAMPLES.filter(({ isFault }) => isFault).map(({ id }) => id));
-  const machine = new page.Machine(kit);
-  for (const { id, text, language, size = 65536, hasStack = false } of EXAMPLES) {
-    const { words, entry } = page.readProgram(text, language, 0, size, kit);
-    machine.load(words, 0, size, hasStack, entry);
-    const end = machine.run(2e6, new Uint8Array(size / 4));
-    report.same(`the end of ${id}`, ends[id], end);
-    const printed = {
-      port: "Hello, RISC-V!\n", console: "What is your name? ", sort: "11234569\n",
-    };
-    report.same(`what ${id} prints`, printed[id] ?? "", machine.terminal.text(100));
+  report.same("those of words", ["words"],
+    EXAMPLES.filter(({ language }) => language === "words").map(({ id }) => id));
+  const [{ text, size, hasStack }] = EXAMPLES;
+  const lines = text.split("\n").filter((line) => line.trim() !== "" && !line.startsWith("#"));
+  report.same("the first: its lines, and its memory", [10, 65536, true],
+    [lines.length, size, hasStack]);
+  const session = new page.Session(new page.Machine(kit));
+  for (const example of EXAMPLES) {
+    session.open(example);
+    const { machine } = session;
+    const end = machine.run(2e6, new Uint8Array(1 << 18));
+    const kind = Object.keys(FAULT).find((name) => FAULT[name] === end.kind);
+    report.same(`the end of ${example.id}, and what it prints`, ENDS[example.id],
+      [[end.reason, end.status ?? kind].filter((part) => part !== undefined).join(" "),
+        machine.terminal.text(100)]);
   }
-  report.same("sentences and names", [10, 18],
+  report.same("sentences and names", [13, 21],
     [EXAMPLES.filter(({ about }) => about.endsWith(".")).length,
       new Set(EXAMPLES.map(({ name }) => name)).size]);
 }

@@ -72,35 +72,36 @@ function tellings(report, page, kit) {
   report.same("states that differ on the way back", 0, wrong);
 }
 
-/* More steps than are kept: the oldest goes, and its extra, and a step that is not made takes none
- * of the others. */
+/* More steps than there is room for: the oldest go, and their extras, and a step that is not made
+ * takes none of the others. */
 function manyRecords(report, page, kit) {
-  const { STEPS_KEPT } = page;
-  report.same("how many steps are kept", 2097152, STEPS_KEPT);
+  const { STEPS_DROPPED } = page;
+  report.same("how many steps are kept at least", 2097152, page.STEPS_KEPT);
+  const most = page.STEPS_KEPT + STEPS_DROPPED;
   const words = [w.addi(17, 0, 64), w.addi(10, 0, 3), w.ecall, w.sw(5, 0x700, 0), w.ecall,
-    ...w.li(5, STEPS_KEPT / 2 - 2), w.addi(5, 5, -1), w.b(1, 5, 0, -4), w.ecall, w.ebreak];
+    ...w.li(5, most / 2 - 2), w.addi(5, 5, -1), w.b(1, 5, 0, -4), w.ecall, w.ebreak];
   const machine = machineWith(page, kit, words);
   const { history } = machine;
   const counts = () => machine.counts().map(({ name, count }) => [name, count]);
   const state = () => [[...kit.x], kit.pc, kit.last, counts()];
-  machine.run(4, nowhere);
+  machine.run(STEPS_DROPPED, nowhere);
   const early = state();
-  const seen = () => [history.steps - STEPS_KEPT, history.length, history.first,
+  const seen = () => [history.steps - most, history.length, history.first,
     [...history.extras.keys()]];
-  machine.run(STEPS_KEPT - 4, nowhere);
-  report.same("as many as are kept", [0, STEPS_KEPT, 0, [2, 4]], seen());
+  machine.run(most - STEPS_DROPPED, nowhere);
+  report.same("as many as there is room for", [0, most, 0, [2, 4]], seen());
   const end = machine.run(99, nowhere);
-  report.same("some more, and an end", [page.FAULT.EBREAK, 4, STEPS_KEPT, 4, [4, STEPS_KEPT + 3]],
-    [end.kind, ...seen()]);
+  report.same("some more, and an end",
+    [page.FAULT.EBREAK, 4, page.STEPS_KEPT + 4, STEPS_DROPPED, [most + 3]], [end.kind, ...seen()]);
   report.same("the way back", ["oldest", 0], [machine.runBack(1e9, nowhere), history.length]);
   report.same("the oldest state, of no step that is kept", [early, null, []],
     [state(), history.latestStore(), history.latest(9)]);
   machine.setRegister(7, 1);
-  report.same("a change there", [4 - STEPS_KEPT, 0, 4, []], seen());
+  report.same("a change there", [STEPS_DROPPED - most, 0, STEPS_DROPPED, []], seen());
   machine.run(5, nowhere);
-  report.same("steps after a way back", [9 - STEPS_KEPT, 5, 4, [4]], seen());
+  report.same("steps after a way back", [STEPS_DROPPED + 5 - most, 5, STEPS_DROPPED, []], seen());
   history.clear();
-  report.same("records that are cleared", [-STEPS_KEPT, 0, 0, []], seen());
+  report.same("records that are cleared", [-most, 0, 0, []], seen());
 }
 
 /* Steps whose number passes 2^32. */

@@ -105,8 +105,8 @@ function saidByNames(report, over) {
   report.same("of a change", ["t0 = 0x00000001.", "x5 = 0x00000001."], both());
   session.step();
   session.step();
-  report.same("of an end", ["(a7)", "(x17)"],
-    both().map((sentence) => /\(\w+\)/.exec(sentence)[0]));
+  report.same("of an end", ["a0 = 1 is print_int of Venus", "x10 = 1 is print_int of Venus"],
+    both().map((sentence) => /\w+ = 1 is print_int of Venus/.exec(sentence)[0]));
 }
 
 /* Branches and jumps by the label that they go to, and by its address where there is none. */
@@ -115,7 +115,7 @@ function targets(report, over) {
   const session = opened(over, `a: 13 b: ${textOf(words)}`, { base: 0x1000 });
   const shown = () => [1, 2, 3, 4, 5].map((index) =>
     session.disassemble(session.machine.kit.words[index], 0x1000 + 4 * index));
-  report.same("the targets", ["beq t0, t1, a", "jal ra, a", "jalr zero, 0x000(ra)",
+  report.same("the targets", ["beq t0, t1, a", "jal ra, a", "jalr zero, 0(ra)",
     "jal zero, 0x00001012", "lui t0, 0x00001000"], shown());
   session.names = over.page.NAMES.number;
   report.same("with numbers", "beq x5, x6, a", shown()[0]);
@@ -221,6 +221,47 @@ async function paces(report, over) {
   }
 }
 
+const CALLS = `main: li a0, 2; call f; li a7, 10; ecall
+f: addi sp, sp, -16; sw ra, 12(sp); mv a1, a0; li a7, 1; ecall; beqz a1, 1f; addi a0, a0, -1; call f
+1: lw ra, 12(sp); addi sp, sp, 16; ret`;
+
+/* A call with all of its steps, and out of one, through a recursion; and the next output. */
+async function overAndOut(report, over) {
+  const { clock } = over;
+  const options = { language: "assembly", calls: "rars", hasStack: true };
+  const session = opened(over, CALLS, options);
+  const act = async (name) => {
+    session[name]();
+    await untilOver(session, clock);
+    return [session.notice.heading, session.machine.kit.pc, session.machine.terminal.text(99)];
+  };
+  const seen = [];
+  for (const name of ["stepOver", "step", "stepOver", "stepOut", "reset"]) seen.push(await act(name));
+  report.same("over a step and a call, and out of no call", [
+    ["Step 1", 4, ""], ["Step 2", 8, ""], ["Back from the call", 12, "210"],
+    ["In no call", 12, "210"], ["Ready", 0, ""],
+  ], seen);
+  for (const name of ["runToOutput", "runToOutput", "stepOut", "stepOut", "runToOutput"]) {
+    seen.push(await act(name));
+  }
+  report.same("to the next output, and out of a recursion", [
+    ["Printed", 40, "2"], ["Printed", 40, "21"], ["Back from the call", 56, "210"],
+    ["Back from the call", 12, "210"], ["Exit", 16, "210"],
+  ], seen.slice(5));
+  report.same("the stops that are left", 0, session.stops.findIndex((stop) => stop !== 0) + 1);
+}
+
+/* A draft with mistakes can't be run. */
+async function runsOfDrafts(report, over) {
+  const session = opened(over, [0x13]);
+  session.open({ name: "d", text: "foo", language: "assembly", isDraft: true });
+  for (const name of ["step", "run", "runToLine", "runBack", "stepOver", "runToOutput", "stepBack"]) {
+    session[name]();
+    report.same(`${name} of a draft with a mistake`, ["To be edited", false, 0],
+      [session.notice.heading, session.isRunning, session.machine.steps]);
+  }
+}
+
 async function stops(report, over) {
   const { clock, page } = over;
   const session = opened(over, [w.addi(5, 5, 1), w.addi(6, 6, 1), w.jal(0, -8)]);
@@ -311,7 +352,7 @@ async function trySessions(report, page, kit, clock) {
   report.begin("sessions");
   const over = { page, kit, clock };
   for (const part of [opening, drafts, saidByNames, targets, singleSteps, runsThereAndBack, paces,
-    stops, input]) {
+    overAndOut, runsOfDrafts, stops, input]) {
     await part(report, over);
   }
 }

@@ -136,7 +136,10 @@ function ends() {
   return [
     [[0xffffffff], ["Illegal instruction", "The word at 0x80000000 is 0xffffffff, which is no "
       + `instruction of RV32IM. ${NOTHING}`, "end"]],
-    [[w.addi(1, 0, 1)], ["Illegal instruction", "The word at 0x80000004 is 0x00000000, which is no "
+    [[w.addi(1, 0, 1)], ["Illegal instruction", "The program has no exit: it ran past its last "
+      + "instruction. The word at 0x80000004 is 0x00000000, which is no instruction of RV32IM. A "
+      + `program ends by the call exit (a7 = 93). ${NOTHING}`, "end"]],
+    [[w.jal(0, 8)], ["Illegal instruction", "The word at 0x80000008 is 0x00000000, which is no "
       + `instruction of RV32IM. Memory is 0 behind a program's end. ${NOTHING}`, "end"]],
     [[w.lui(8, 0x20000000), w.jalr(0, 8, 4)], ["Fetch fault", "The program went to 0x20000004, "
       + `where there is no memory. ${MEMORY} ${NOTHING}`, "end"]],
@@ -167,15 +170,66 @@ function explanations(report, page, kit) {
   });
 }
 
+/* Sources that end by mistakes of beginners, and a part of what is said of each. */
+const CAUSES = [
+  ["main: addi sp, sp, -16; sw ra, 12(sp); call main", { hasStack: true },
+    "are, which are read-only. The stack has reached the program: is there a recursion without an "
+    + "end?"],
+  ["main: la t0, main; sw t0, 0(t0)", {}, "where the program's instructions are, which are "
+    + "read-only. Nothing was changed by it."],
+  ["addi sp, sp, -16; sw ra, 12(sp)", {}, "sp was never set: it began as 0."],
+  ["li a0, 5; nop", {}, "The program has no exit: it ran past its last instruction."],
+  ["li a0, 5; nop\n.data\n.word -1", {}, "The program has no exit: it ran past its last "
+    + "instruction."],
+  ["main: li a0, 3; ret", {}, "The ret at 0x00000004 has nowhere to go: ra is 0, since nothing called "
+    + "main. A program ends by the call exit (a7 = 93)."],
+  ["li a0, 5; li a7, 1; ecall", {}, "is none of Linux's: a7 = 1 is PrintInt of RARS. Choose its calls "
+    + "here."],
+  ["li a0, 4; la a1, text; text: ecall", {}, "a0 = 4 is print_string of Venus."],
+  ["li a7, 64; ecall", { calls: "rars" }, "is none of RARS's: a7 = 64 is write of Linux."],
+];
+
+function causes(report, page, kit) {
+  report.cases("the cause that is told", CAUSES.map(([text, options, cause]) =>
+    [[text, options], cause]), ([text, options]) => {
+    const session = new page.Session(new page.Machine(kit));
+    session.open({ name: "p", text, language: "assembly", ...options });
+    const end = session.machine.run(99999, new Uint8Array(16384));
+    session.sayEnd(end);
+    const cause = CAUSES.find((row) => row[0] === text)[2];
+    return session.sentence.includes(cause) ? cause : session.sentence;
+  });
+  const machine = new page.Machine(kit);
+  const code = Uint8Array.of(1, 1);
+  machine.load([w.auipc(5, 0), w.sw(5, 0, 5)], 0, 65536, false, 0, 0, code);
+  machine.step();
+  const before = [...kit.x, kit.pc, kit.last, machine.steps];
+  report.same("a store to an instruction", ["fault", page.FAULT.STORE, 0],
+    (({ reason, kind, address }) => [reason, kind, address])(machine.step()));
+  report.same("and what it changed", [before, w.auipc(5, 0)],
+    [[...kit.x, kit.pc, kit.last, machine.steps], kit.words[0]]);
+  report.cases("the text of jalr", [
+    ["jalr x1, 0x00c(x1)", "jalr x1, 12(x1)"], ["jalr x0, 0xfff(x5)", "jalr x0, -1(x5)"],
+    ["jalr x0, 0x800(x5)", "jalr x0, -2048(x5)"], ["lui x5, 0x00001000", "lui x5, 0x00001000"],
+  ], page.inDecimal);
+  report.cases("the text of data", [
+    [7, ".word 7"], [0xffffffff, ".word -1"], [0x6c6c6548, '.ascii "Hell"'],
+    [0x00000a6f, '.ascii "o\\n"'],
+    [0x00006100, ".word 24832"], [0x41, ".word 65"], [0, ".word 0"],
+  ], page.textOfData);
+}
+
 /* ---- keys */
 
 const KEYS = {
-  step: "s", stepBack: "b", run: "r", pause: "p", runBack: "B", runToLine: "t", reset: "x",
+  step: "s", stepOver: "S", stepOut: "U", stepBack: "b", run: "r", pause: "p", runToOutput: "R",
+  runBack: "B", runToLine: "t", reset: "x",
   breakpoint: "k", program: "g", slower: "-", faster: "+", radix: "n", names: "h", change: "u",
-  unit: "m", around: "w",
+  details: "i", unit: "m", around: "w",
   address: "a", memoryUp: "[", memoryDown: "]", calls: "f", console: "c",
   endInput: "z", examples: "y", preset: "v",
-  edit: "e", open: "o", link: "l", lesson: "j", closeLesson: "q",
+  edit: "e", open: "o", save: "W", link: "l", lesson: "j", check: "C", hint: "H", handIn: "D",
+  closeLesson: "q",
   theme: "d", keys: "?",
 };
 
@@ -190,7 +244,7 @@ function keys(report, page) {
   });
   for (const [name, key] of Object.entries(KEYS)) {
     const isLetter = /[a-z]/i.test(key);
-    const shift = key === "B" || "+?".includes(key) ? ["Shift"] : [];
+    const shift = /[A-Z]/.test(key) || "+?".includes(key) ? ["Shift"] : [];
     const asked = (...held) => page.actionOf(event(key, [...shift, ...held]));
     report.same(`the key ${key}, alone and with others`,
       [name, undefined, undefined, undefined, undefined, isLetter ? undefined : name],
@@ -200,9 +254,10 @@ function keys(report, page) {
   report.cases("what a key asks for", [
     // CapsLock turns letters around, with and without Shift
     [event("B"), "stepBack"], [event("b", ["Shift"]), "runBack"], [event("S"), "step"],
-    [event("s", ["Shift"]), undefined], [event("S", ["Shift"]), undefined],
+    [event("s", ["Shift"]), "stepOver"], [event("S", ["Shift"]), "stepOver"],
+    [event("t", ["Shift"]), undefined], [event("T", ["Shift"]), undefined],
     [event("Enter"), undefined], [event(" "), undefined], [event("ArrowDown"), undefined],
-    [event("{", ["Shift"]), undefined], [event("i"), undefined], [event("F1"), undefined],
+    [event("{", ["Shift"]), undefined], [event("0"), undefined], [event("F1"), undefined],
     [event("["), "memoryUp"],
   ], page.actionOf);
 }
@@ -210,7 +265,7 @@ function keys(report, page) {
 /** Tries sentences, numbers and keys. */
 function tryWording(report, page, kit) {
   report.begin("wording");
-  for (const part of [numbers, groups, effects, explanations]) part(report, page, kit);
+  for (const part of [numbers, groups, effects, explanations, causes]) part(report, page, kit);
   report.begin("keys");
   keys(report, page);
 }
