@@ -37,7 +37,9 @@ pub fn committed_word(retired: &Retired) -> Option<u32>
     }
 }
 
-/// Appends a text and a word in hexadecimal.
+/// Appends a text and a word in hexadecimal. It is a part of its caller, where the text and the
+/// number of digits are known, so that both are copied by moves.
+#[inline(always)]
 fn push_word(line: &mut CommitLine, before: &str, least: usize, word: u32)
     requires least { least ≤ 8 }
     requires room { length line.old.bytes + length before.now + 8 ≤ LINE_CAPACITY }
