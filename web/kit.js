@@ -55,7 +55,7 @@ const RECORD_WORDS = LAYOUT.change.size / 4 + 2;
 /* How many of the latest steps have a record at least, and how many of the oldest go at once where
  * there is no more room. One record more is for the step to be made. */
 const STEPS_KEPT = 1 << 21;
-const STEPS_DROPPED = 1 << 14;
+const STEPS_DROPPED = 1 << 12;
 const RECORDS = STEPS_KEPT + STEPS_DROPPED + 1;
 
 /* The kinds of a fault, and of an access, as rrs.h numbers them. */

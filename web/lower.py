@@ -10,6 +10,9 @@ import sys
 import tempfile
 
 SECTION = {"table": 4, "memory": 5, "elements": 9}
+# what the compiler may use (its processor is lime1), by binaryen's names
+FEATURES = ["memory64", "bulk-memory", "extended-const", "multivalue", "mutable-globals",
+            "nontrapping-float-to-int", "sign-ext"]
 WIDE = 4  # the flag of a table or a memory whose addresses have 64 bits
 
 
@@ -59,8 +62,9 @@ def main():
     with tempfile.NamedTemporaryFile(suffix=".wasm") as narrowed:
         narrowed.write(narrow_table(given.read_bytes()))
         narrowed.flush()
-        words = ["wasm-opt", "--enable-memory64", "--memory64-lowering", narrowed.name, "-o", lowered]
-        run = subprocess.run(words, capture_output=True, text=True, check=False)
+        features = [f"--enable-{feature}" for feature in FEATURES]
+        run = subprocess.run(["wasm-opt", *features, "--memory64-lowering", narrowed.name, "-o", lowered],
+                             capture_output=True, text=True, check=False)
     if run.returncode or is_wide(lowered.read_bytes()):
         sys.exit(f"lower.py: {run.stdout}{run.stderr}the memory is not lowered")
 

@@ -289,6 +289,7 @@ class Page {
       if (target.dataset.part) showPart(target.dataset.part);
     });
     $("main").addEventListener("scroll", markPart);
+    markPart();
     for (const type of ["focusin", "pointerdown"]) {
       document.addEventListener(type, ({ target }) => {
         if (!$("more").contains(target)) $("more").open = false;
@@ -708,7 +709,6 @@ class Page {
     for (const view of this.views) view.render();
     this.renderChanged();
     this.renderOffer();
-    markPart();
     this.goToInput();
     const enabled = {
       pause: session.isRunning,

@@ -249,7 +249,9 @@ class Session {
   /* Keeps registers and memory, so that what changes from here on can be told. */
   remember() {
     const { x, words } = this.machine.kit;
-    this.before = { x: x.slice(), words: words.slice() };
+    if (this.before?.words.length !== words.length) this.before = { words: words.slice() };
+    else this.before.words.set(words);
+    this.before.x = x.slice();
   }
 
   stop() {

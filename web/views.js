@@ -37,6 +37,19 @@ function mostOf(counts) {
   return most;
 }
 
+/** How much room an element has, by what was measured when it last changed: to measure it anew would
+ * have the browser lay the page out. */
+class Room {
+  constructor(element, onChange) {
+    this.width = this.height = 0;
+    new ResizeObserver(() => {
+      this.width = element.clientWidth;
+      this.height = element.clientHeight;
+      onChange();
+    }).observe(element);
+  }
+}
+
 /* ---- the program */
 
 const LINE_HEIGHT = 24;
@@ -61,7 +74,9 @@ class ListingView {
     this.box = $("listing");
     this.sheet = make("div", "sheet");
     this.box.append(this.sheet);
-    this.box.addEventListener("scroll", () => this.renderLines());
+    this.top = 0;
+    this.room = new Room(this.box, () => this.render());
+    this.box.addEventListener("scroll", () => this.scroll());
     this.box.addEventListener("click", (event) => this.click(event));
     this.box.addEventListener("dblclick", ({ target }) => {
       if (target.closest(".line") && target.className !== "gutter") session.runToLine();
@@ -77,15 +92,24 @@ class ListingView {
     else this.session.select(index);
   }
 
+  /** Shows the lines where the box is scrolled to. */
+  scroll() {
+    this.top = this.box.scrollTop;
+    this.renderLines();
+  }
+
   /** Scrolls as little as needed to have a line in view. */
   reveal(index) {
-    const { box } = this;
+    const { box, room: { height } } = this;
     const top = index * LINE_HEIGHT;
     const margin = 2 * LINE_HEIGHT;
-    if (top < box.scrollTop + margin) box.scrollTop = top - margin;
-    else if (top + LINE_HEIGHT + margin > box.scrollTop + box.clientHeight) {
-      box.scrollTop = top + LINE_HEIGHT + margin - box.clientHeight;
-    }
+    const least = top + LINE_HEIGHT + margin - height;
+    const last = this.session.lines * LINE_HEIGHT - height;
+    const wanted = Math.min(top - margin, Math.max(least, this.top));
+    const to = Math.max(0, Math.min(wanted, last));
+    if (to === this.top) return;
+    box.scrollTop = to;
+    this.scroll();
   }
 
   render() {
@@ -93,8 +117,9 @@ class ListingView {
     this.sheet.style.height = `${this.session.lines * LINE_HEIGHT}px`;
     this.box.classList.toggle("with-sources", this.session.sources.size > 0);
     const pc = machine.indexOf(machine.kit.pc);
-    if (pc !== this.pcShown && pc >= 0) this.reveal(pc);
-    this.pcShown = pc;
+    if (pc !== this.pcShown && pc >= 0 && this.room.height > 0) this.reveal(pc);
+    // where the listing is hidden, when it is shown
+    if (this.room.height > 0) this.pcShown = pc;
     this.renderLines();
     this.renderCoverage();
   }
@@ -108,11 +133,12 @@ class ListingView {
   }
 
   renderLines() {
-    const { session, box } = this;
-    const first = Math.max(0, Math.floor(box.scrollTop / LINE_HEIGHT) - LINES_AROUND);
-    const inView = Math.ceil(box.clientHeight / LINE_HEIGHT) + 2 * LINES_AROUND;
+    const { session, box, room } = this;
+    const first = Math.max(0, Math.floor(this.top / LINE_HEIGHT) - LINES_AROUND);
+    const inView = Math.ceil(room.height / LINE_HEIGHT) + 2 * LINES_AROUND;
     const count = Math.max(0, Math.min(session.lines - first, inView));
-    this.most = mostOf(session.machine.executed);
+    // no word behind the lines was executed
+    this.most = mostOf(session.machine.executed.subarray(0, session.lines));
     const lines = resize(this.sheet, count, () => this.makeLine());
     for (let i = 0; i < count; i++) this.fillLine(lines[i], first + i);
     const isThere = session.selected >= first && session.selected < first + count;
@@ -255,6 +281,10 @@ class MemoryView {
     this.start = 0;
     this.typed = 0;
     this.onChoose = () => {};
+    this.room = new Room($("panel-memory"), () => {
+      this.rowHeight = $("memory").rows[0]?.offsetHeight;
+      this.render();
+    });
     $("memory").addEventListener("click", ({ target }) => {
       if (target.dataset.address) this.onChoose(target.dataset.address, `0x${target.textContent}`);
     });
@@ -279,14 +309,13 @@ class MemoryView {
 
   /* How many rows there are, by the room there is. */
   get rows() {
-    const height = $("memory").rows[0]?.offsetHeight;
-    if (!height) return MEMORY_ROWS;
-    return Math.max(FEWEST_ROWS, Math.floor(($("panel-memory").clientHeight - 10) / height));
+    if (!this.rowHeight) return MEMORY_ROWS;
+    return Math.max(FEWEST_ROWS, Math.floor((this.room.height - 10) / this.rowHeight));
   }
 
   /* How many bytes a row has, by the room there is. */
   get rowBytes() {
-    return $("memory").parentElement.clientWidth < (this.unit === 1 ? 580 : 440) ? 8 : 16;
+    return this.room.width < (this.unit === 1 ? 580 : 440) ? 8 : 16;
   }
 
   /* The address that the panel is about. */

@@ -135,10 +135,9 @@ const FAULT_SENTENCES = {
     return word === 0 ? `${what} Memory is 0 behind a program's end.` : what;
   },
   [FAULT.FETCH]({ address }, machine, names) {
-    const from = machine.executed[machine.indexOf(address - 4)] > 0;
-    if (from) {
-      return `The program has no exit: it ran past its last instruction, and memory ends there. A `
-        + `program ends by ${exitCall(machine, names)}.`;
+    if (machine.executed[machine.indexOf(address - 4)] > 0) {
+      return `The program has no exit: it ran past its last instruction to ${hex(address)}, where `
+        + `there is no memory. A program ends by ${exitCall(machine, names)}.`;
     }
     return `The program went to ${hex(address)}, where there is no memory. `
       + whereMemoryIs(machine);

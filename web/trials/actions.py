@@ -127,7 +127,7 @@ EFFECTS = {
     # no lesson is open
     "lesson": {}, "check": {}, "hint": {}, "handIn": {}, "closeLesson": {},
     "theme": {"theme": "dark"},
-    "keys": {"dialog": "help", "focus": "keys-on"},
+    "keys": {"dialog": "help", "focus": "first-lesson"},
 }
 
 # the actions that have a button, and those that a menu does too: its name, and the arrow key

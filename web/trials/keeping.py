@@ -28,6 +28,8 @@ def open_keeping(browser):
     machine = opened(browser, Subject.page.as_uri(), keeps=True)
     machine.page.ask(FORGET)
     reopen(machine)
+    # what other trials have left
+    was_asked(machine)
     return machine
 
 

@@ -236,7 +236,7 @@ f: addi sp, sp, -16; sw ra, 12(sp); beqz a0, 2f; addi a0, a0, -1; call f
 
 # how long each of some clicks takes with what is drawn of it: the shortest of some times
 CLICKS = ["step", "stepBack", "stepOver", "breakpoint", "radix", "names", "unit", "details", "memoryUp"]
-MEASURE = """Math.min(...[1, 2, 3, 4, 5].map(() => {
+MEASURE = """Math.min(...Array.from({ length: 15 }, () => {
     const begun = performance.now();
     rrs.act("NAME");
     document.body.getBoundingClientRect();

@@ -345,7 +345,7 @@ def long_listing(machine):
     same("whether the active line, out of view, is there", None, page.ask(active))
     lines, height = page.ask("[rrs.session.lines, Math.ceil($('listing').clientHeight / 24)]")
     for top in (0, 2, 900, 1990):
-        made = page.ask(f"(() => {{ $('listing').scrollTop = {24 * top}; rrs.listing.renderLines();"
+        made = page.ask(f"(() => {{ $('listing').scrollTop = {24 * top}; rrs.listing.scroll();"
                         " return [Math.floor($('listing').scrollTop / 24), ...[...document"
                         ".querySelectorAll('.line')].map(({ id }) => Number(id.slice(5)))]; })()")
         first = max(0, made[0] - 4)

@@ -483,7 +483,7 @@ def graded():
                                                            HANDED_IN["ada"][1].splitlines()))
         same("what was handed in by the page", [f"{handed}: right, 3 of 3 cases, the latest of 2 tries"],
              grade(FUNCTIONS, "1", handed)[1])
-        (folder / "bad.s").write_text("main: foo\n")
+        (folder / "bad.s").write_text("main: foo a0\n")
         same("what can't be read", [f"{folder / 'bad.s'}: not read: Line 1: no such instruction or "
                                     "directive: foo"], grade(FUNCTIONS, "1", folder / "bad.s")[1])
         (folder / "heading.txt").write_text("# Week 1\n" + FUNCTIONS.read_text())

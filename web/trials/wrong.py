@@ -33,7 +33,7 @@ IN_NODE = [
     ("executable.js", "const start = at - where.distance;", "const start = at;"),
     ("convention.js", "&& this.top?.returns === this.returns;", ";"),
     ("convention.js", "if (history.lowest < this.state.step) this.goBack(history.lowest);", ""),
-    ("records.js", "this.first += STEPS_DROPPED;", "this.first++;"),
+    ("records.js", "if (this.steps < this.lowest) this.lowest = this.steps;", ""),
     ("session.js", "&& depthOf(this.machine) > this.depth", ""),
     ("session.js", "Math.floor((now - this.nextAt) / each) + 1", "1"),
     ("wording.js", "if (!machine.hasStack && machine", "if (machine.hasStack && machine"),

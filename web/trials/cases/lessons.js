@@ -169,7 +169,7 @@ async function judged(report, page, kit) {
     ["li a7, 5; ecall; li a7, 5; ecall\n.data\nn: .word 0", both("It ended by: Call refused. The "
       + "ecall at 0x0000000c could not be served: the input has ended.")],
   ]) report.same(`what is missed by ${text.slice(0, 20)}`, wanted, await told(text));
-  const wrong = await told("foo").catch((error) => error.message);
+  const wrong = await told("foo a0").catch((error) => error.message);
   report.same("a program that can't be read", "Line 1: no such instruction or directive: foo", wrong);
   exercise.tries = [{ text: "a: nop\n", right: 0, of: 2 }, { text: "b\n\n|c", right: 2, of: 2 }];
   const text = page.handedIn({ title: "Lesson", exercises: [{ title: "One" }, exercise] });
