@@ -10,3 +10,5 @@ pub mod Expanding
 pub mod Reading
 pub mod Expansion
 pub mod Forms
+pub mod Arguments
+pub mod Scanning

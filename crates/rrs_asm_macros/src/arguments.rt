@@ -1,5 +1,9 @@
 //! Parameters of macros, and the arguments that a call gives them.
 
+ghost use Rattle.std.specs.Prelude.{◌≡◌, ◌<◌, ◌≤◌, false, true, None, Some, IfSome, IfNone, IfErr, IfOk, length};
+ghost use Rattle.std.specs.List.{HoldsAt};
+ghost use Rattle.rrs_asm_macros.specs.Arguments.{by_place, has_name, named};
+
 use crate::cursor::Cursor;
 use crate::errors::MacroErrorKind;
 use crate::values::character;
@@ -50,7 +54,13 @@ pub fn take_parameters<A: Allocator + Copy>(alloc: A, cursor: &mut Cursor) -> Ve
 fn mistake_behind<A: Allocator + Copy>(
     parameters: &[Parameter<A>],
     name: &[u8],
-) -> Option<MacroErrorKind> {
+) -> Option<MacroErrorKind>
+    ensures twice { has_name parameters.now name.now ≡ true
+        → result ≡ Some MacroErrorKind.DuplicateParameter }
+    ensures many { result ≡ Some MacroErrorKind.Parameters → 256 ≤ length parameters.now }
+    ensures none { IfNone result ((has_name parameters.now name.now ≡ false)
+        × (length parameters.now < 256)) }
+{
     if index_of(parameters, name).is_some() {
         return Some(MacroErrorKind::DuplicateParameter);
     }
@@ -106,7 +116,11 @@ fn take_kind(cursor: &mut Cursor) -> Kind {
 }
 
 /// Which parameter has a name.
-pub fn index_of<A: Allocator + Copy>(parameters: &[Parameter<A>], name: &[u8]) -> Option<usize> {
+pub fn index_of<A: Allocator + Copy>(parameters: &[Parameter<A>], name: &[u8]) -> Option<usize>
+    ensures found { IfSome result (λ i.
+        HoldsAt (λ p. named name.now p ≡ true) parameters.now i) }
+    ensures absent { IfNone result (has_name parameters.now name.now ≡ false) }
+{
     for (index, parameter) in parameters.iter().enumerate() {
         if parameter.name.as_slice() == name {
             return Some(index);
@@ -177,7 +191,13 @@ fn parameter_for<A: Allocator + Copy>(
     name: Option<&[u8]>,
     next: usize,
     is_named: bool,
-) -> Result<usize, MacroErrorKind> {
+) -> Result<usize, MacroErrorKind>
+    ensures placed { IfNone name.entry (result ≡ by_place (length parameters.now) next is_named) }
+    ensures known { IfSome name.entry (λ own. IfOk result (λ i.
+        HoldsAt (λ p. named own.now p ≡ true) parameters.now i)) }
+    ensures unknown { IfSome name.entry (λ own. IfErr result (λ kind.
+        (kind ≡ MacroErrorKind.NoParameter) × (has_name parameters.now own.now ≡ false))) }
+{
     match name {
         Some(name) => index_of(parameters, name).ok_or(MacroErrorKind::NoParameter),
         None if is_named => Err(MacroErrorKind::Mixed),

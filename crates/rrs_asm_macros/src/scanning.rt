@@ -4,6 +4,7 @@ ghost use Rattle.std.specs.Prelude.{◌≡◌, ◌<◌};
 ghost use Rattle.std.specs.List.{list_any};
 ghost use Rattle.rrs_asm_lines.specs.Lines.{behind_blanks, word};
 ghost use Rattle.rrs_asm_macros.specs.Directives.{begins_one};
+ghost use Rattle.rrs_asm_macros.specs.Scanning.{has_parameters, place_after, plain_after};
 ghost use Rattle.rrs_asm_lines.specs.Lines.{is_line_feed, lines};
 
 use crate::directives::is_directive;
@@ -31,12 +32,16 @@ pub enum Place {
 impl Place {
     /// Whether a backslash and a name after it are a parameter there. In a character constant they
     /// are no name.
-    pub fn has_parameters(self) -> bool {
+    pub fn has_parameters(self) -> bool
+        ensures { result ≡ has_parameters self }
+    {
         !matches!(self, Place::Character | Place::CharacterEscape)
     }
 
     /// Where the byte after this one stands.
-    pub fn behind(self, byte: u8, next: Option<u8>) -> Place {
+    pub fn behind(self, byte: u8, next: Option<u8>) -> Place
+        ensures { result ≡ place_after self byte next }
+    {
         match self {
             Place::Plain => plain_behind(byte, next),
             Place::Text => match byte {
@@ -58,7 +63,9 @@ impl Place {
 }
 
 /// Where the byte after one that stands in nothing stands. A comment begins before its first byte.
-fn plain_behind(byte: u8, next: Option<u8>) -> Place {
+fn plain_behind(byte: u8, next: Option<u8>) -> Place
+    ensures { result ≡ plain_after byte next }
+{
     match byte {
         b'"' => Place::Text,
         b'\'' => Place::Character,
