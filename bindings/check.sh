@@ -624,8 +624,8 @@ wrong_tools() {
 }
 
 # What is small, with something wrong in it: nothing, answers, lines, talks, takes, unwritten, layouts,
-# assertions, asserted, functions, version, comma, words, names, asks, state, zeros, tries, or one of the
-# calls
+# assertions, asserted, besides, functions, version, comma, words, names, asks, state, zeros, tries, or one
+# of the calls
 wrong() {
     local more=() driver=("$room/replay")
     checks=(-O0)
@@ -645,6 +645,9 @@ wrong() {
         layouts=$room/wrong ;;
     assertions) grep -v 'fault_word' "$header" >"$room/rrs.h" && header=$room/rrs.h ;;
     asserted) sed 's/^RRS_ASSERT(fault_word, .*/RRS_ASSERT(fault_more, sizeof(rrs_fault) == 12);/' \
+        "$header" >"$room/rrs.h" && header=$room/rrs.h ;;
+    # one more than there are
+    besides) sed 's/^RRS_ASSERT(fault_word, .*/&\nRRS_ASSERT(fault_more, sizeof(rrs_fault) == 12);/' \
         "$header" >"$room/rrs.h" && header=$room/rrs.h ;;
     functions) grep -v '^uint32_t rrs_version' "$header" >"$room/rrs.h" && header=$room/rrs.h ;;
     version) sed 's/^\(#define RRS_VERSION\) (\(.*\))$/\1 \2/' "$header" >"$room/rrs.h" &&
@@ -678,7 +681,7 @@ wrong() {
 self_test() {
     local what status tried=0
     for what in nothing right more blank ended fewer uncompared unshown answers lines talks takes unwritten \
-        layouts assertions asserted functions version comma words names asks state zeros tries \
+        layouts assertions asserted besides functions version comma words names asks state zeros tries \
         $wrong_calls; do
         status=0
         tried=$((tried + 1))
@@ -696,7 +699,7 @@ self_test() {
         *) echo "not seen: $what is wrong" && failed=1 ;;
         esac
     done
-    [ "$tried" = 42 ] || { echo "$tried subjects, and there must be 42" && failed=1; }
+    [ "$tried" = 43 ] || { echo "$tried subjects, and there must be 43" && failed=1; }
     echo "self-test: status $failed"
     exit "$failed"
 }
