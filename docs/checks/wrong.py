@@ -47,6 +47,14 @@ WRONG = [
     ("README.md", "`one_name`", "`two_name`", "no source has `two_name`"),
     ("README.md", "`one_name`", "`src/lib.r`", "no source has `src/lib.r`"),
     ("README.md", "`one_name`", "`src/lib.s`", "no source has `src/lib.s`"),
+    # a path of which a part is nowhere, and those of which one stands behind no such other
+    ("README.md", "`one_name`", "`one::two_name`", "no source has `two_name`"),
+    ("README.md", "`one_name`", "`other_name::one_name`", "no source has `other_name::one_name`"),
+    ("README.md", "`one_name`", "`one::one_name::other_name`", "no source has `one_name::other_name`"),
+    # in an expression, and an option
+    ("README.md", "`one_name`", "`1 + two_name(3)`", "no source has `two_name`"),
+    ("README.md", "`one_name`", "`1 + other_name::one_name`", "no source has `other_name::one_name`"),
+    ("README.md", "`one_name`", "`--two`", "no source has `--two`"),
     ("README.md", "1<!--", "2<!--", "`crates` is 1, and not 2"),
     ("README.md", "count crates", "count none", "there is no count `none`"),
     ("crates/one/must-fail/tried-alone.md", "old:     1", "old:     3", "this stands 0 times"),
