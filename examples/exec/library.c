@@ -1,0 +1,528 @@
+// What people's programs ask of a C library, and picolibc lacks. A function that is a system call
+// of Linux makes it, by RV32's number: where the environment does not serve it, errno is ENOSYS. The
+// others answer as on a machine with one user and one process. cc makes these names weak, so that a
+// program may have its own.
+#include <dirent.h>
+#include <errno.h>
+#include <fcntl.h>
+#include <grp.h>
+#include <poll.h>
+#include <pwd.h>
+#include <signal.h>
+#include <stdarg.h>
+#include <stddef.h>
+#include <stdint.h>
+#include <stdio.h>
+#include <stdlib.h>
+#include <string.h>
+#include <sys/ioctl.h>
+#include <sys/mman.h>
+#include <sys/resource.h>
+#include <sys/stat.h>
+#include <sys/time.h>
+#include <sys/times.h>
+#include <sys/utsname.h>
+#include <sys/wait.h>
+#include <time.h>
+#include <unistd.h>
+#include <utime.h>
+
+// The folder from where the program was started, as Linux has it in place of a descriptor.
+#define HERE -100
+
+// picolibc has other numbers than Linux for these errors. The first 34 are the same.
+static const unsigned char linux_errors[][2] = {
+    {35, EDEADLK}, {36, ENAMETOOLONG}, {37, ENOLCK}, {38, ENOSYS}, {39, ENOTEMPTY}, {40, ELOOP},
+    {75, EOVERFLOW}, {84, EILSEQ}, {95, EOPNOTSUPP}, {110, ETIMEDOUT}, {122, EDQUOT},
+};
+
+static long call(long number, long a, long b, long c, long d, long e)
+{
+    register long a0 __asm__("a0") = a;
+    register long a1 __asm__("a1") = b;
+    register long a2 __asm__("a2") = c;
+    register long a3 __asm__("a3") = d;
+    register long a4 __asm__("a4") = e;
+    register long a7 __asm__("a7") = number;
+    __asm__ volatile("ecall" : "+r"(a0) : "r"(a1), "r"(a2), "r"(a3), "r"(a4), "r"(a7) : "memory");
+    if (a0 >= 0 || a0 < -4095) {
+        return a0;
+    }
+    errno = -a0;
+    for (size_t i = 0; i < sizeof linux_errors / sizeof *linux_errors; i++) {
+        if (linux_errors[i][0] == -a0) {
+            errno = linux_errors[i][1];
+        }
+    }
+    return -1;
+}
+
+static int fail(int error)
+{
+    errno = error;
+    return -1;
+}
+
+static void *none(int error)
+{
+    errno = error;
+    return NULL;
+}
+
+// Paths.
+int access(const char *path, int mode) { return call(48, HERE, (long)path, mode, 0, 0); }
+int chdir(const char *path) { return call(49, (long)path, 0, 0, 0, 0); }
+int chmod(const char *path, mode_t mode) { return call(53, HERE, (long)path, mode, 0, 0); }
+int chown(const char *path, uid_t user, gid_t group)
+{
+    return call(54, HERE, (long)path, user, group, 0);
+}
+int link(const char *from, const char *to)
+{
+    return call(37, HERE, (long)from, HERE, (long)to, 0);
+}
+int mkdir(const char *path, mode_t mode) { return call(34, HERE, (long)path, mode, 0, 0); }
+ssize_t readlink(const char *restrict path, char *restrict bytes, size_t size)
+{
+    return call(78, HERE, (long)path, (long)bytes, size, 0);
+}
+int rename(const char *from, const char *to)
+{
+    return call(276, HERE, (long)from, HERE, (long)to, 0);
+}
+int rmdir(const char *path) { return call(35, HERE, (long)path, 0x200, 0, 0); }
+int symlink(const char *from, const char *to)
+{
+    return call(36, (long)from, HERE, (long)to, 0, 0);
+}
+int truncate(const char *path, off_t length)
+{
+    return call(45, (long)path, length, (long long)length >> 32, 0, 0);
+}
+mode_t umask(mode_t mask) { return call(166, mask, 0, 0, 0, 0); }
+
+char *getcwd(char *bytes, size_t size)
+{
+    return call(17, (long)bytes, size, 0, 0, 0) < 0 ? NULL : bytes;
+}
+
+// There are no links.
+int lstat(const char *restrict path, struct stat *restrict status) { return stat(path, status); }
+
+static int set_times(const char *path, long long read, long long written)
+{
+    long long times[4] = {read, 0, written, 0};
+    return call(412, HERE, (long)path, (long)times, 0, 0);
+}
+
+int utime(const char *path, const struct utimbuf *times)
+{
+    return times ? set_times(path, times->actime, times->modtime)
+                 : call(412, HERE, (long)path, 0, 0, 0);
+}
+
+int utimes(const char *path, const struct timeval times[2])
+{
+    return times ? set_times(path, times[0].tv_sec, times[1].tv_sec)
+                 : call(412, HERE, (long)path, 0, 0, 0);
+}
+
+// Descriptors.
+int dup(int fd) { return call(23, fd, 0, 0, 0, 0); }
+int dup2(int fd, int to)
+{
+    return fd == to ? fcntl(fd, F_GETFD) < 0 ? -1 : to : call(24, fd, to, 0, 0, 0);
+}
+int fchmod(int fd, mode_t mode) { return call(52, fd, mode, 0, 0, 0); }
+int fchown(int fd, uid_t user, gid_t group) { return call(55, fd, user, group, 0, 0); }
+int fdatasync(int fd) { return call(83, fd, 0, 0, 0, 0); }
+int fsync(int fd) { return call(82, fd, 0, 0, 0, 0); }
+int ftruncate(int fd, off_t length)
+{
+    return call(46, fd, length, (long long)length >> 32, 0, 0);
+}
+int pipe(int ends[2]) { return call(59, (long)ends, 0, 0, 0, 0); }
+
+// picolibc has other numbers than Linux for the locks, the owner and F_DUPFD_CLOEXEC, and other
+// bits for the status: these commands are refused.
+int fcntl(int fd, int command, ...)
+{
+    va_list more;
+    va_start(more, command);
+    long argument = va_arg(more, long);
+    va_end(more);
+    return command >= F_DUPFD && command <= F_SETFD ? call(25, fd, command, argument, 0, 0)
+                                                    : fail(ENOSYS);
+}
+
+int ioctl(int fd, unsigned long request, ...)
+{
+    va_list more;
+    va_start(more, request);
+    long argument = va_arg(more, long);
+    va_end(more);
+    return call(29, fd, request, argument, 0, 0);
+}
+
+// By TCGETS, which a terminal alone answers.
+int isatty(int fd)
+{
+    char terminal[64];
+    return ioctl(fd, 0x5401, terminal) == 0;
+}
+
+int poll(struct pollfd *of, nfds_t count, int wait)
+{
+    (void)of, (void)count, (void)wait;
+    return fail(ENOSYS);
+}
+
+// Folders are not read.
+DIR *opendir(const char *path)
+{
+    (void)path;
+    return none(ENOSYS);
+}
+struct dirent *readdir(DIR *folder)
+{
+    (void)folder;
+    return none(EBADF);
+}
+void rewinddir(DIR *folder) { (void)folder; }
+int closedir(DIR *folder)
+{
+    (void)folder;
+    return fail(EBADF);
+}
+
+// Users. Where the environment has none, the number is 0.
+static long number_of(long number)
+{
+    int before = errno;
+    long answer = call(number, 0, 0, 0, 0, 0);
+    errno = before;
+    return answer < 0 ? 0 : answer;
+}
+
+uid_t getuid(void) { return number_of(174); }
+uid_t geteuid(void) { return number_of(175); }
+gid_t getgid(void) { return number_of(176); }
+gid_t getegid(void) { return number_of(177); }
+pid_t getppid(void) { return number_of(173); }
+
+// None of them has a name.
+struct passwd *getpwuid(uid_t user)
+{
+    (void)user;
+    return none(ENOENT);
+}
+struct passwd *getpwnam(const char *name)
+{
+    (void)name;
+    return none(ENOENT);
+}
+struct group *getgrgid(gid_t group)
+{
+    (void)group;
+    return none(ENOENT);
+}
+struct group *getgrnam(const char *name)
+{
+    (void)name;
+    return none(ENOENT);
+}
+char *getlogin(void) { return none(ENOENT); }
+
+// There is one process.
+pid_t fork(void) { return fail(ENOSYS); }
+int execv(const char *path, char *const arguments[])
+{
+    (void)path, (void)arguments;
+    return fail(ENOSYS);
+}
+int execvp(const char *path, char *const arguments[]) { return execv(path, arguments); }
+FILE *popen(const char *command, const char *mode)
+{
+    (void)command, (void)mode;
+    return none(ENOSYS);
+}
+int pclose(FILE *stream)
+{
+    (void)stream;
+    return fail(ECHILD);
+}
+pid_t wait(int *status)
+{
+    (void)status;
+    return fail(ECHILD);
+}
+pid_t waitpid(pid_t process, int *status, int options)
+{
+    (void)process, (void)options;
+    return wait(status);
+}
+
+// A signal comes from raise alone, so none waits.
+int sigaction(int number, const struct sigaction *wanted, struct sigaction *before)
+{
+    // signal tells the handler before, and sets another
+    _sig_func_ptr was = signal(number, wanted ? wanted->sa_handler : SIG_DFL);
+    if (was == SIG_ERR) {
+        return -1;
+    }
+    if (!wanted) {
+        signal(number, was);
+    }
+    if (before) {
+        *before = (struct sigaction){.sa_handler = was};
+    }
+    return 0;
+}
+
+int sigprocmask(int how, const sigset_t *set, sigset_t *before)
+{
+    (void)how, (void)set;
+    if (before) {
+        *before = 0;
+    }
+    return 0;
+}
+
+unsigned alarm(unsigned seconds)
+{
+    (void)seconds;
+    return 0;
+}
+
+// Time. The clocks have Linux's numbers in the system call.
+static int by_clock(long number, clockid_t clock, struct timespec *time)
+{
+    long long now[2];
+    long of = clock == CLOCK_REALTIME ? 0 : clock == CLOCK_MONOTONIC ? 1 : (long)clock;
+    if ((of > 3 && fail(EINVAL)) || call(number, of, (long)now, 0, 0, 0) < 0) {
+        return -1;
+    }
+    *time = (struct timespec){.tv_sec = now[0], .tv_nsec = now[1]};
+    return 0;
+}
+
+int clock_gettime(clockid_t clock, struct timespec *time) { return by_clock(403, clock, time); }
+int clock_getres(clockid_t clock, struct timespec *time) { return by_clock(406, clock, time); }
+
+int nanosleep(const struct timespec *wanted, struct timespec *left)
+{
+    long long time[2] = {wanted->tv_sec, wanted->tv_nsec};
+    long long rest[2] = {time[0], time[1]};
+    if (call(407, 0, 0, (long)time, (long)rest, 0) == 0) {
+        return 0;
+    }
+    if (left) {
+        *left = (struct timespec){.tv_sec = rest[0], .tv_nsec = rest[1]};
+    }
+    return -1;
+}
+
+unsigned sleep(unsigned seconds)
+{
+    struct timespec time = {.tv_sec = seconds};
+    return nanosleep(&time, &time) == 0 ? 0 : time.tv_sec;
+}
+
+int usleep(useconds_t microseconds)
+{
+    struct timespec time = {microseconds / 1000000, microseconds % 1000000 * 1000};
+    return nanosleep(&time, NULL);
+}
+
+int getrusage(int of, struct rusage *usage)
+{
+    struct timespec time;
+    if (of != RUSAGE_SELF) {
+        return fail(of == RUSAGE_CHILDREN ? ENOSYS : EINVAL);
+    }
+    if (clock_gettime(CLOCK_PROCESS_CPUTIME_ID, &time) < 0) {
+        return -1;
+    }
+    *usage = (struct rusage){.ru_utime = {.tv_sec = time.tv_sec, .tv_usec = time.tv_nsec / 1000}};
+    return 0;
+}
+
+// The machine.
+int uname(struct utsname *names) { return call(160, (long)names, 0, 0, 0, 0); }
+
+int gethostname(char *name, size_t size)
+{
+    struct utsname names;
+    if (uname(&names) < 0) {
+        return -1;
+    }
+    strlcpy(name, names.nodename, size);
+    return strlen(names.nodename) < size ? 0 : fail(ENAMETOOLONG);
+}
+
+long sysconf(int name)
+{
+    switch (name) {
+    case _SC_PAGESIZE:
+        return 4096;
+    case _SC_CLK_TCK:
+        return CLOCKS_PER_SEC;
+    case _SC_NPROCESSORS_CONF:
+    case _SC_NPROCESSORS_ONLN:
+        return 1;
+    case _SC_OPEN_MAX:
+        return FOPEN_MAX;
+    }
+    return fail(EINVAL);
+}
+
+// Memory comes from brk alone, by malloc.
+void *mmap(void *address, size_t size, int rights, int flags, int fd, off_t offset)
+{
+    (void)address, (void)size, (void)rights, (void)flags, (void)fd, (void)offset;
+    return fail(ENOSYS), MAP_FAILED;
+}
+int munmap(void *address, size_t size)
+{
+    (void)address, (void)size;
+    return fail(ENOSYS);
+}
+
+// There is one hart and one thread, so an atomic access is a plain one. gcc and clang call these of
+// each size, and do not let C define them by their own names.
+#define NAMED(type, name, size, ...)                                                              \
+    type own_##name##_##size(__VA_ARGS__) __asm__(#name "_" #size);                               \
+    type own_##name##_##size(__VA_ARGS__)
+#define FETCHES(type, size, name, operation)                                                      \
+    NAMED(type, __atomic_fetch_##name, size, type *at, type value, int order)                     \
+    {                                                                                             \
+        (void)order;                                                                              \
+        type was = *at;                                                                           \
+        *at = operation;                                                                          \
+        return was;                                                                               \
+    }                                                                                             \
+    NAMED(type, __sync_fetch_and_##name, size, type *at, type value)                              \
+    {                                                                                             \
+        type was = *at;                                                                           \
+        *at = operation;                                                                          \
+        return was;                                                                               \
+    }
+#define ATOMIC(type, size)                                                                        \
+    NAMED(type, __atomic_load, size, const type *at, int order)                                   \
+    {                                                                                             \
+        (void)order;                                                                              \
+        return *at;                                                                               \
+    }                                                                                             \
+    NAMED(void, __atomic_store, size, type *at, type value, int order)                            \
+    {                                                                                             \
+        (void)order;                                                                              \
+        *at = value;                                                                              \
+    }                                                                                             \
+    NAMED(_Bool, __atomic_compare_exchange, size, type *at, type *expected, type value, int weak, \
+          int order, int otherwise)                                                               \
+    {                                                                                             \
+        (void)weak, (void)order, (void)otherwise;                                                 \
+        if (*at == *expected) {                                                                   \
+            *at = value;                                                                          \
+            return 1;                                                                             \
+        }                                                                                         \
+        *expected = *at;                                                                          \
+        return 0;                                                                                 \
+    }                                                                                             \
+    NAMED(type, __sync_val_compare_and_swap, size, type *at, type expected, type value)           \
+    {                                                                                             \
+        type was = *at;                                                                           \
+        *at = was == expected ? value : was;                                                      \
+        return was;                                                                               \
+    }                                                                                             \
+    NAMED(_Bool, __sync_bool_compare_and_swap, size, type *at, type expected, type value)         \
+    {                                                                                             \
+        _Bool same = *at == expected;                                                             \
+        *at = same ? value : *at;                                                                 \
+        return same;                                                                              \
+    }                                                                                             \
+    NAMED(type, __atomic_exchange, size, type *at, type value, int order)                         \
+    {                                                                                             \
+        (void)order;                                                                              \
+        type was = *at;                                                                           \
+        *at = value;                                                                              \
+        return was;                                                                               \
+    }                                                                                             \
+    NAMED(type, __sync_lock_test_and_set, size, type *at, type value)                             \
+    {                                                                                             \
+        type was = *at;                                                                           \
+        *at = value;                                                                              \
+        return was;                                                                               \
+    }                                                                                             \
+    FETCHES(type, size, add, was + value)                                                         \
+    FETCHES(type, size, sub, was - value)                                                         \
+    FETCHES(type, size, and, was &value)                                                          \
+    FETCHES(type, size, or, was | value)                                                          \
+    FETCHES(type, size, xor, was ^ value)                                                         \
+    FETCHES(type, size, nand, ~(was & value))
+
+ATOMIC(uint8_t, 1)
+ATOMIC(uint16_t, 2)
+ATOMIC(uint32_t, 4)
+ATOMIC(uint64_t, 8)
+
+// Those of any size.
+#define ANY(type, name, ...)                                                                      \
+    type any_##name(__VA_ARGS__) __asm__(#name);                                                  \
+    type any_##name(__VA_ARGS__)
+
+ANY(void, __atomic_load, size_t size, const void *at, void *into, int order)
+{
+    (void)order;
+    memcpy(into, at, size);
+}
+ANY(void, __atomic_store, size_t size, void *at, const void *value, int order)
+{
+    (void)order;
+    memcpy(at, value, size);
+}
+ANY(void, __atomic_exchange, size_t size, void *at, const void *value, void *was, int order)
+{
+    (void)order;
+    memcpy(was, at, size);
+    memcpy(at, value, size);
+}
+ANY(_Bool, __atomic_compare_exchange, size_t size, void *at, void *expected, const void *value,
+    int order, int otherwise)
+{
+    (void)order, (void)otherwise;
+    _Bool same = memcmp(at, expected, size) == 0;
+    memcpy(same ? at : expected, same ? value : at, size);
+    return same;
+}
+ANY(_Bool, __atomic_is_lock_free, size_t size, const void *at)
+{
+    (void)size, (void)at;
+    return 1;
+}
+ANY(void, __sync_synchronize, void)
+{
+}
+
+// Of C++, by the names of its ABI: where memory is wanting a program without exceptions ends.
+static void *new(size_t size)
+{
+    void *room = malloc(size ? size : 1);
+    return room ? room : (abort(), NULL);
+}
+#define CPP(type, name, ...) type name(__VA_ARGS__); type name(__VA_ARGS__)
+CPP(void *, _Znwj, size_t size) { return new(size); }
+CPP(void *, _Znaj, size_t size) { return new(size); }
+CPP(void *, _ZnwjRKSt9nothrow_t, size_t size, const void *tag) { return (void)tag, malloc(size); }
+CPP(void *, _ZnajRKSt9nothrow_t, size_t size, const void *tag) { return (void)tag, malloc(size); }
+CPP(void, _ZdlPv, void *room) { free(room); }
+CPP(void, _ZdaPv, void *room) { free(room); }
+CPP(void, _ZdlPvj, void *room, size_t size) { (void)size, free(room); }
+CPP(void, _ZdaPvj, void *room, size_t size) { (void)size, free(room); }
+const char _ZSt7nothrow;
+CPP(void, __cxa_pure_virtual, void) { abort(); }
+CPP(void, __cxa_deleted_virtual, void) { abort(); }
+// Of the 64 bits of a guard the first byte says whether its variable is made.
+CPP(int, __cxa_guard_acquire, char *guard) { return !*guard; }
+CPP(void, __cxa_guard_release, char *guard) { *guard = 1; }
+CPP(void, __cxa_guard_abort, char *guard) { (void)guard; }

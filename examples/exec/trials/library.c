@@ -1,0 +1,168 @@
+// What the functions of library.c answer, and which error they give: a line for each.
+#include <dirent.h>
+#include <errno.h>
+#include <fcntl.h>
+#include <grp.h>
+#include <poll.h>
+#include <pwd.h>
+#include <signal.h>
+#include <stdio.h>
+#include <string.h>
+#include <sys/ioctl.h>
+#include <sys/mman.h>
+#include <sys/resource.h>
+#include <sys/stat.h>
+#include <sys/time.h>
+#include <sys/utsname.h>
+#include <sys/wait.h>
+#include <time.h>
+#include <unistd.h>
+#include <utime.h>
+
+static const char *const names[] = {
+    [0] = "no error", [ENOENT] = "ENOENT", [EBADF] = "EBADF", [ECHILD] = "ECHILD",
+    [EINVAL] = "EINVAL", [ENOTTY] = "ENOTTY", [ERANGE] = "ERANGE", [ENOSYS] = "ENOSYS",
+    [ENAMETOOLONG] = "ENAMETOOLONG",
+};
+
+static void says(const char *what, long answer)
+{
+    const char *name = errno <= ENAMETOOLONG ? names[errno] : NULL;
+    printf("%s: %ld, %s\n", what, answer, name ? name : "another error");
+}
+
+// A call, with its answer; and whether a call gives an address.
+#define SAYS(call) (errno = 0, says(#call, (long)(call)))
+#define GIVES(call) (errno = 0, says(#call, (call) != NULL))
+
+static char room[4096];
+
+static void paths(void)
+{
+    struct stat status;
+    SAYS(access("none", F_OK));
+    SAYS(chdir("none"));
+    SAYS(chmod("none", 0600));
+    SAYS(chown("none", 0, 0));
+    SAYS(link("none", "none"));
+    SAYS(lstat("none", &status));
+    SAYS(mkdir("none/none", 0700));
+    SAYS(readlink("none", room, sizeof room));
+    SAYS(rename("none", "none"));
+    SAYS(rmdir("none"));
+    SAYS(symlink("none", "none/none"));
+    SAYS(truncate("none", 0));
+    SAYS(utime("none", NULL));
+    SAYS(utimes("none", NULL));
+    GIVES(getcwd(room, sizeof room));
+    GIVES(getcwd(room, 1));
+    GIVES(opendir("none"));
+    memset(room, 'a', 256);
+    room[256] = '\0';
+    SAYS(access(room, F_OK));
+}
+
+static void descriptors(void)
+{
+    int ends[2];
+    SAYS(isatty(0));
+    SAYS(isatty(9));
+    SAYS(dup(9));
+    SAYS(dup2(9, 8));
+    SAYS(fchmod(9, 0600));
+    SAYS(fchown(9, 0, 0));
+    SAYS(fcntl(1, F_GETFD));
+    SAYS(fcntl(9, F_GETFD));
+    SAYS(fcntl(1, F_GETFL));
+    SAYS(fdatasync(9));
+    SAYS(fsync(9));
+    SAYS(ftruncate(9, 0));
+    SAYS(pipe(ends));
+    SAYS(poll(NULL, 0, 0));
+}
+
+static void users_and_processes(void)
+{
+    char *words[] = {"none", NULL};
+    SAYS(getuid() == geteuid());
+    SAYS(getgid() == getegid());
+    GIVES(getpwuid(getuid()));
+    GIVES(getpwnam("none"));
+    GIVES(getgrgid(getgid()));
+    GIVES(getgrnam("none"));
+    GIVES(getlogin());
+    SAYS(fork());
+    SAYS(execv("none", words));
+    SAYS(execvp("none", words));
+    GIVES(popen("none", "r"));
+    SAYS(pclose(stdin));
+    SAYS(wait(NULL));
+    SAYS(waitpid(1, NULL, 0));
+}
+
+static int caught;
+
+static void catches(int number)
+{
+    caught = number;
+}
+
+static void signals(void)
+{
+    struct sigaction action = {.sa_handler = catches}, before;
+    sigset_t set = 0;
+    SAYS(sigaction(SIGUSR1, &action, NULL));
+    SAYS(sigaction(SIGUSR1, NULL, &before));
+    SAYS(before.sa_handler == catches);
+    SAYS(raise(SIGUSR1));
+    SAYS(caught == SIGUSR1);
+    SAYS(sigprocmask(SIG_BLOCK, NULL, &set));
+    SAYS(alarm(0));
+}
+
+static void time_and_machine(void)
+{
+    struct timespec time = {.tv_nsec = 1};
+    struct utsname machine;
+    struct rusage usage;
+    SAYS(clock_gettime(CLOCK_REALTIME, &time));
+    SAYS(clock_gettime(CLOCK_MONOTONIC, &time));
+    SAYS(clock_gettime(CLOCK_PROCESS_CPUTIME_ID, &time));
+    SAYS(clock_gettime((clockid_t)9, &time));
+    SAYS(clock_getres(CLOCK_MONOTONIC, &time));
+    time = (struct timespec){.tv_nsec = 1};
+    SAYS(nanosleep(&time, NULL));
+    SAYS(usleep(1));
+    SAYS(getrusage(RUSAGE_SELF, &usage));
+    SAYS(getrusage(9, &usage));
+    SAYS(uname(&machine));
+    SAYS(gethostname(room, sizeof room));
+    SAYS(sysconf(_SC_PAGESIZE));
+    SAYS(sysconf(_SC_NPROCESSORS_ONLN));
+    SAYS(sysconf(999));
+    SAYS(mmap(NULL, 4096, PROT_READ, MAP_PRIVATE | MAP_ANONYMOUS, -1, 0) == MAP_FAILED);
+    SAYS(munmap(NULL, 4096));
+}
+
+// What the standard asks of these macros.
+_Static_assert(FILENAME_MAX >= 256 && FOPEN_MAX >= 8 && TMP_MAX >= 25 && L_tmpnam > 1, "stdio.h");
+_Static_assert(CLOCKS_PER_SEC == 1000000, "POSIX");
+
+// A program may have a function of its own in the place of one of the library.
+int geteuid_calls;
+uid_t geteuid(void)
+{
+    geteuid_calls++;
+    return getuid();
+}
+
+int main(void)
+{
+    paths();
+    descriptors();
+    users_and_processes();
+    signals();
+    time_and_machine();
+    SAYS(geteuid_calls);
+    return 0;
+}
