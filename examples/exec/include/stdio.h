@@ -9,6 +9,13 @@ extern "C" {
 #endif
 FILE *popen(const char *command, const char *mode);
 int pclose(FILE *stream);
+// There is one thread, so a stream is never locked.
+#define flockfile(stream) ((void)(stream))
+#define funlockfile(stream) ((void)(stream))
+#define getc_unlocked(stream) getc(stream)
+#define getchar_unlocked() getchar()
+#define putc_unlocked(c, stream) putc(c, stream)
+#define putchar_unlocked(c) putchar(c)
 #ifdef __cplusplus
 }
 #endif

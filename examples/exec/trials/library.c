@@ -5,6 +5,7 @@
 #include <grp.h>
 #include <poll.h>
 #include <pwd.h>
+#include <setjmp.h>
 #include <signal.h>
 #include <stdio.h>
 #include <string.h>
@@ -156,6 +157,15 @@ uid_t geteuid(void)
     return getuid();
 }
 
+static int jumps(void)
+{
+    jmp_buf here;
+    if (_setjmp(here) != 0) {
+        return 1;
+    }
+    _longjmp(here, 1);
+}
+
 int main(void)
 {
     paths();
@@ -164,5 +174,10 @@ int main(void)
     signals();
     time_and_machine();
     SAYS(geteuid_calls);
+    SAYS(jumps());
+    flockfile(stdout);
+    putc_unlocked('!', stdout);
+    putchar_unlocked('\n');
+    funlockfile(stdout);
     return 0;
 }
