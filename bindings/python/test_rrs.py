@@ -545,12 +545,14 @@ class Faces(Counted):
                 self.assertEqual((repr(other), type(other)), (repr(answer), type(answer)))
 
     def test_an_error_may_be_pickled(self):
-        for error, text in (
-            (rrs.ElfError("NOT_IN_WORDS", 4, 5), "NOT_IN_WORDS 4 5"),
-            (rrs.AssemblyError([rrs.Mistake(1, 2, "a"), rrs.Mistake(3, 4, "b")]), "1:2: a; 3:4: b"),
+        for kind, arguments, text in (
+            (rrs.ElfError, ("NOT_IN_WORDS", 4, 5), "NOT_IN_WORDS 4 5"),
+            (rrs.AssemblyError, ([rrs.Mistake(1, 2, "a"), rrs.Mistake(3, 4, "b")],), "1:2: a; 3:4: b"),
         ):
+            error = kind(*arguments)
             other = pickle.loads(pickle.dumps(error))
-            self.assertEqual((type(other), str(other), vars(other)), (type(error), text, vars(error)))
+            self.assertEqual((type(other), str(other), other.args, vars(other)),
+                             (kind, text, arguments, vars(error)))
 
     def test_each_machine_keeps_decoded_words_of_its_own(self):
         machine = Machine([0x00128293, 0xFFDFF06F])  # addi t0, t0, 1; j -4
