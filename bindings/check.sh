@@ -152,9 +152,11 @@ header_has() {
 }
 
 # The header alone, and included twice, is C of each standard, and C++, as they are and as GNU has them,
-# with all that a project may warn of; and with a field of another offset it is none.
+# with all that a project may warn of, and without a C library, whose headers give C99 a _Static_assert;
+# and with a field of another offset it is none.
 header_asserts() {
-    local dialect language flags tried=0
+    local dialect language flags tried=0 alone
+    alone="-ffreestanding -nostdinc -isystem $(gcc -print-file-name=include)"
     local all='-Wconversion -Wsign-conversion -Wundef -Wshadow -Wcast-qual -Wredundant-decls'
     local of_c='-Wstrict-prototypes -Wmissing-prototypes -Wold-style-definition -Wc++-compat'
     local of_cc='-Wold-style-cast -Wuseless-cast -Wextra-semi -Wzero-as-null-pointer-constant'
@@ -167,7 +169,8 @@ header_asserts() {
         [[ $dialect != *++* ]] || language=c++ flags="$warnings $all $of_cc"
         [[ $dialect != gnu* ]] || flags='-Wall -Wextra -Werror'
         # shellcheck disable=SC2086 # the flags are words
-        gcc -std="$dialect" $flags -fsyntax-only -include "$header" -x "$language" "$header" || return 1
+        gcc -std="$dialect" $flags -fsyntax-only -include "$header" -x "$language" "$header" &&
+            gcc -std="$dialect" $flags $alone -fsyntax-only -x "$language" "$header" || return 1
         # shellcheck disable=SC2086 # the flags are words
         ! gcc -std="$dialect" $flags -fsyntax-only -x "$language" "$room/wrong.h" 2>"$room/wrong" ||
             return 1
