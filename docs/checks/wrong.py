@@ -21,11 +21,13 @@ RIGHT = {
     "docs/ADDING.md": f"# Adding\n\n| `{TABLE}` | 1 |\n",
     "docs/PROVED.md": "# Proved\n\n| Promise | Carried by | How |\n|---|---|---|\n"
                       "| Two is 2 | [`other_name`](../crates/one/src/lib.rt) | `value`, `ensures` |\n",
-    "docs/OTHER.md": "# Other\n\n## A heading\n",
+    # two headings of one name
+    "docs/OTHER.md": "# Other\n\n## A heading\n\n## A [heading](PROVED.md)!\n",
     "docs/SURFACE.md": f"# Surface\n\n{BELOW}\n",
     "README.md": """# A page
 
-The name `one_name`, [a heading](docs/OTHER.md#a-heading), and 1<!--count crates--> crate.
+The name `one_name`, [a heading](docs/OTHER.md#a-heading), [another](docs/OTHER.md#a-heading-1), and
+1<!--count crates--> crate.
 
 <!-- from crates/one/src/lib.rt -->
 ```rust
@@ -44,6 +46,9 @@ WRONG = [
     ("README.md", "    1\n```", "    1\n", "a code block that nothing ends"),
     ("README.md", "OTHER.md#", "NONE.md#", "there is no such file"),
     ("README.md", "#a-heading", "#another", "there is no such heading"),
+    ("README.md", "#a-heading-1", "#a-heading-2", "there is no such heading"),
+    ("docs/OTHER.md", "## A heading", "```sh\n## A heading\n```", "there is no such heading"),
+    ("docs/OTHER.md", "## A [", "A [", "there is no such heading"),
     ("README.md", "`one_name`", "`two_name`", "no source has `two_name`"),
     ("README.md", "`one_name`", "`src/lib.r`", "no source has `src/lib.r`"),
     ("README.md", "`one_name`", "`src/lib.s`", "no source has `src/lib.s`"),
