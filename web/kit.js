@@ -122,8 +122,12 @@ class Places {
 /** The library's calls over one hart and one memory, which lie in the module's own memory. */
 class Kit {
   static async load(bytes) {
-    const { module, instance } = await WebAssembly.instantiate(bytes, {});
-    const kit = new Kit(instance.exports);
+    return Kit.of(await WebAssembly.compile(bytes));
+  }
+
+  /** A kit of a module, with a memory of its own. */
+  static of(module) {
+    const kit = new Kit(new WebAssembly.Instance(module, {}).exports);
     kit.module = module;
     return kit;
   }

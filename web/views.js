@@ -646,9 +646,7 @@ class LessonView {
 
   /* The session in which programs are judged, with a machine of its own. */
   get judging() {
-    const { module } = this.session.machine.kit;
-    this.judge ??= new Session(new Machine(
-      new Kit(new WebAssembly.Instance(module, {}).exports)));
+    this.judge ??= new Session(new Machine(Kit.of(this.session.machine.kit.module)));
     return this.judge;
   }
 
