@@ -163,8 +163,12 @@ def saved(browser):
 def panel(machine):
     """the editor is a panel: the exercise and the program of before stay, and one key runs the text"""
     page = machine.page
-    machine.give(LESSON)
-    page.wait("!document.getElementById('lesson').hidden")
+    # a lesson of its own, since what is solved of a lesson is kept
+    with tempfile.TemporaryDirectory() as name:
+        path = pathlib.Path(name) / "turns.txt"
+        path.write_text(LESSON.read_text().replace("Loops", "Turns"))
+        machine.give(path)
+        page.wait("document.getElementById('lesson-title').textContent === 'Turns'")
     machine.keys("s")
     machine.keys("e")
     same("what is open, and what is in view", [None, True, True, True], [

@@ -374,7 +374,7 @@ IN_VIEW = """(() => {
 })()"""
 
 
-OFF = """[...document.querySelectorAll('[data-action][aria-disabled="true"]')]
+OFF = """[...document.querySelectorAll('[data-action][aria-disabled="true"]:not([hidden])')]
     .map((button) => button.dataset.action)"""
 
 
