@@ -1,7 +1,8 @@
 //! What can be wrong with macros, conditions and repetitions.
 
-ghost use Rattle.std.specs.Prelude.{◌≡◌};
-ghost use Rattle.rrs_asm_macros.specs.Mistakes.{is_last, is_of_word};
+ghost use Rattle.std.specs.Prelude.{◌≡◌, [], false, None, Some, IfNone, IfSome};
+ghost use Rattle.std.specs.Bool.{OnTrue};
+ghost use Rattle.rrs_asm_macros.specs.Mistakes.{fault_told, has_backslash, is_last, is_of_word, told, word_at, words_of};
 
 use rrs_asm_lines::split_word;
 use std::alloc::{AllocError, AllocFailed, Allocator, Global};
@@ -96,6 +97,8 @@ impl MacroErrorKind {
 }
 
 impl fmt::Display for MacroErrorKind {
+    ghost output = { λ kind. Some (words_of kind) };
+
     fn fmt<W: fmt::Write>(&self, f: &mut fmt::Formatter<W>) -> fmt::Result {
         f.write_str(match self {
             MacroErrorKind::Unended => "there is no .endm or .endr of this macro or repetition",
@@ -144,6 +147,8 @@ pub struct MacroError {
 }
 
 impl fmt::Display for MacroError {
+    ghost output = { λ mistake. Some (told mistake) };
+
     fn fmt<W: fmt::Write>(&self, f: &mut fmt::Formatter<W>) -> fmt::Result {
         let line = self.line;
         let column = self.column;
@@ -155,7 +160,9 @@ impl fmt::Display for MacroError {
 impl MacroError {
     /// The word of a source that is wrong, where the mistake is in one. None where the line may
     /// have arguments, since the mistake stands in it as they make it.
-    pub fn word<'a>(&self, source: &'a [u8]) -> Option<&'a [u8]> {
+    pub fn word<'a>(&self, source: &'a [u8]) -> Option<&'a [u8]>
+        ensures other { is_of_word self.now.kind ≡ false → result ≡ None }
+    {
         if !self.kind.is_of_word() {
             return None;
         }
@@ -171,7 +178,11 @@ impl MacroError {
 }
 
 /// The word of a line without arguments that begins at a column.
-fn word_from(line: &[u8], column: usize) -> Option<&[u8]> {
+fn word_from(line: &[u8], column: usize) -> Option<&[u8]>
+    ensures word { IfSome result (λ found. found.now ≡ word_at column line.now) }
+    ensures arguments { OnTrue (has_backslash line.now) (result ≡ None) }
+    ensures plain { has_backslash line.now ≡ false → IfNone result (word_at column line.now ≡ []) }
+{
     if line.contains(&b'\\') {
         return None;
     }
@@ -190,6 +201,8 @@ pub enum MacroFault<A: Allocator = Global> {
 }
 
 impl<A: Allocator> fmt::Display for MacroFault<A> {
+    ghost output = { λ fault. Some (fault_told fault) };
+
     fn fmt<W: fmt::Write>(&self, f: &mut fmt::Formatter<W>) -> fmt::Result {
         match self {
             MacroFault::Mistakes(mistakes) => {
