@@ -1,7 +1,7 @@
 -- The lines of a source of assembly, the parts of a line, and the first word of a part (GNU
 -- assembler manual, "Syntax": whitespace, comments, statements and labels). Which labels and
 -- statements the parts are is not said here.
-use Rattle.std.specs.Prelude.{ℕ, zero, suc, length, ◌+◌, Bool, false, ◌&&◌, ◌||◌, ◌==◌, nat_lt, if◌then◌else◌, List, [], ◌∷◌, ◌++◌, Option, Some, None}
+use Rattle.std.specs.Prelude.{ℕ, zero, suc, length, ◌+◌, Bool, false, not, ◌&&◌, ◌||◌, ◌==◌, nat_lt, if◌then◌else◌, List, [], ◌∷◌, ◌++◌, Option, Some, None}
 use Rattle.std.specs.List.{slice_split}
 use Rattle.std.specs.Str.{bytes_eq}
 use Rattle.rrs_asm_lines.specs.declared.lexing.Place.{Place}
@@ -106,6 +106,11 @@ first_word (b ∷ bs) = if is_in_word b then b ∷ first_word bs else []
 abbrev pub behind_first_word : List ℕ → List ℕ
 behind_first_word [] = []
 behind_first_word (b ∷ bs) = if is_in_word b then behind_first_word bs else b ∷ bs
+
+-- a name is a word that does not begin with a digit
+abbrev pub is_name : List ℕ → Bool
+is_name [] = false
+is_name (b ∷ bs) = not (is_between 48 57 b)
 
 -- the word that a text begins with, and what follows it
 abbrev pub word : List ℕ → List ℕ

@@ -2,7 +2,7 @@
 
 ghost use Rattle.std.specs.Prelude.{◌≡◌, ◌<◌, [], ◌∷◌, IfSome, count_by, length};
 ghost use Rattle.std.specs.Option.{option_map_or};
-ghost use Rattle.rrs_asm_lines.specs.Lines.{is_line_feed, lines, next, mark_of, parts, shown, begins_with, is_blank, is_in_word, word, behind_word, behind_blanks, words_of, place_from};
+ghost use Rattle.rrs_asm_lines.specs.Lines.{is_name, is_line_feed, lines, next, mark_of, parts, shown, begins_with, is_blank, is_in_word, word, behind_word, behind_blanks, words_of, place_from};
 ghost use Rattle.rrs_asm_lines.specs.declared.lexing.Place.{Place};
 
 /// A line, and the text after its line feed, if there is one.
@@ -165,7 +165,9 @@ pub fn behind_blanks(text: &[u8]) -> &[u8]
 }
 
 /// Whether a word can be the name of a symbol: it begins with no digit.
-pub fn is_name(word: &[u8]) -> bool {
+pub fn is_name(word: &[u8]) -> bool
+    ensures { result ≡ is_name word.now }
+{
     !matches!(word, [] | [b'0'..=b'9', ..])
 }
 

@@ -3,10 +3,9 @@
 //! GNU `as` takes blanks out of operands before it looks at macros: it keeps one where a letter, a
 //! digit or a quotation mark stands on both sides. So `1 + 2` is one argument, and `1 2` are two.
 
-ghost use Rattle.std.specs.Prelude.{◌≡◌, ◌++◌, ◌∷◌, [], Some, None, MatchOption, MatchBool, IfSome, IfNone, length, drop, take, is_ok, ◌==◌};
-ghost use Rattle.std.specs.Str.{bytes_eq};
+ghost use Rattle.std.specs.Prelude.{◌≡◌, ◌++◌, ◌∷◌, [], Some, None, MatchOption, IfSome, IfNone, length, drop, take, is_none, ◌==◌};
 ghost use Rattle.std.specs.Bool.{OnTrue, OnFalse};
-ghost use Rattle.rrs_asm_lines.specs.Lines.{behind_blanks, behind_word, word};
+ghost use Rattle.rrs_asm_lines.specs.Lines.{behind_blanks, behind_word, is_name, word};
 ghost use Rattle.rrs_asm_macros.specs.Operands.{Halts, Reads, keeps_blank, next_byte, slip_at};
 
 use crate::errors::{Halt, MacroErrorKind, Slip};
@@ -92,7 +91,12 @@ impl<'a> Cursor<'a> {
     }
 
     /// Appends a byte to a text.
-    pub fn put<A: Allocator>(&mut self, byte: u8, text: &mut Vec<u8, A>) {
+    pub fn put<A: Allocator>(&mut self, byte: u8, text: &mut Vec<u8, A>)
+        ensures put { OnTrue (is_none self.new.mistake)
+            (text.new.items ≡ text.old.items ++ byte ∷ []) }
+        ensures kept { OnTrue (is_none self.new.mistake) (self.new ≡ self.old) }
+        ensures first { IfSome self.old.mistake (λ halt. self.new.mistake ≡ Some halt) }
+    {
         let is_kept = text.push(byte).is_ok();
         self.keep(is_kept);
     }
@@ -222,11 +226,17 @@ impl<'a> Cursor<'a> {
     }
 
     /// Takes a comma and the blanks around it, or blanks alone.
-    pub fn skip_comma(&mut self) {
+    pub fn skip_comma(&mut self)
+        ensures comma { take 1 (behind_blanks self.old.rest.now) ≡ 44 ∷ []
+            → self.new.rest.now ≡ behind_blanks (drop 1 (behind_blanks self.old.rest.now)) }
+        ensures blanks { (take 1 (behind_blanks self.old.rest.now) ≡ 44 ∷ [] → ⊥)
+            → self.new.rest.now ≡ behind_blanks self.old.rest.now }
+        ensures before { self.new.before ≡ 32 }
+        ensures behind_kept { self.new.behind ≡ self.old.behind }
+        ensures mistake_kept { self.new.mistake ≡ self.old.mistake }
+    {
+        let _ = self.take_if(b",");
         self.rest = behind_blanks(self.rest);
-        if self.take_if(b",") {
-            self.rest = behind_blanks(self.rest);
-        }
         self.before = b' ';
     }
 
@@ -251,6 +261,10 @@ impl<'a> Cursor<'a> {
     /// Takes a name.
     pub fn name(&mut self) -> &'a [u8]
         ensures word { result.now ≡ word self.old.rest.now }
+        ensures named { OnTrue (is_name (word self.old.rest.now))
+            (Reads self.old self.new (behind_word self.old.rest.now)) }
+        ensures unnamed { OnFalse (is_name (word self.old.rest.now)) (Halts self.old self.new
+            (Halt.Slip (slip_at self.old.rest.now self.old.behind MacroErrorKind.Name))) }
     {
         let slip = self.slip(MacroErrorKind::Name);
         let word = self.word();
@@ -259,7 +273,12 @@ impl<'a> Cursor<'a> {
     }
 
     /// Keeps a mistake where something is left.
-    pub fn end(&mut self) {
+    pub fn end(&mut self)
+        ensures over { behind_blanks self.old.rest.now ≡ [] → self.new ≡ self.old }
+        ensures more { OnFalse (length (behind_blanks self.old.rest.now) == 0)
+            (Halts self.old self.new
+            (Halt.Slip (slip_at self.old.rest.now self.old.behind MacroErrorKind.More))) }
+    {
         self.want(self.is_over(), self.slip(MacroErrorKind::More));
     }
 }
