@@ -1,11 +1,13 @@
 -- Conditions (GNU assembler manual, ".if absolute expression"): what stands after `.if`, up to its
 -- `.elseif`, `.else` or `.endif`, is read if the condition holds, and what stands after the others
 -- if none before did. The value of an expression is a signed number of 64 bits.
-use Rattle.std.specs.Prelude.{ℕ, Bool, true, false, not, ◌&&◌, ◌||◌, ◌==◌, int_lt, List, length, ◌-◌, slice_get}
+use Rattle.std.specs.Prelude.{◌≡◌, ℕ, Bool, true, false, not, ◌&&◌, ◌||◌, ◌==◌, int_lt, List, [], ◌∷◌, ◌++◌, length, take, ◌-◌, slice_get}
 use Rattle.std.specs.Int.{cast_signed, w64}
 use Rattle.std.specs.Option.{option_map_or}
 use Rattle.rrs_asm_macros.specs.declared.errors.MacroError.{MacroError}
 use Rattle.rrs_asm_macros.specs.declared.directives.Comparison.{Comparison}
+use Rattle.rrs_asm_macros.specs.declared.directives.Directive.{Directive}
+use Rattle.rrs_asm_macros.specs.declared.directives.Test.{Test}
 use Rattle.rrs_asm_macros.specs.declared.frames.Condition.{Condition}
 
 abbrev pub is_below : ℕ → ℕ → Bool
@@ -43,3 +45,40 @@ abbrev pub is_skipped : List Condition → Bool
 is_skipped conditions =
     option_map_or (λ condition. not condition.is_read)
     (slice_get conditions (length conditions - 1)) false
+
+-- the conditions around the innermost one
+abbrev pub before_last : List Condition → List Condition
+before_last conditions = take (length conditions - 1) conditions
+
+abbrev pub is_end : Directive → Bool
+is_end Directive.EndIf = true
+is_end _ = false
+
+abbrev pub is_else : Directive → Bool
+is_else Directive.Else = true
+is_else _ = false
+
+-- something holds, where that is wanted, or does not
+abbrev pub is_as : Bool → Bool → Bool
+is_as holds true = holds
+is_as holds false = not holds
+
+-- `.ifb` and `.ifnb`
+abbrev pub is_blank : Test → Bool
+is_blank (Test.Blank wanted) = true
+is_blank _ = false
+
+-- The innermost is a new condition, whose first part is read if what it asks holds.
+abbrev pub Begins : List Condition → MacroError → List Condition → Type 0
+Begins old place new = (holds : Bool)
+    × (new ≡ old ++ next_part (unread place false) holds false ∷ [])
+
+-- `.else` has the next part read if none before was to be read, and `.elseif` if what it asks holds
+-- too, which is not looked at where a part before was to be read.
+pub record GoesOnWith (around : List Condition) (last : Condition) (is_behind_else : Bool)
+    (new : List Condition) : Type 0 where
+  pub other : is_behind_else ≡ true → new ≡ around ++ next_part last true true ∷ []
+  pub done : is_behind_else ≡ false → last.is_done ≡ true
+      → new ≡ around ++ next_part last false false ∷ []
+  pub asked : is_behind_else ≡ false → last.is_done ≡ false
+      → (holds : Bool) × (new ≡ around ++ next_part last holds false ∷ [])

@@ -1,5 +1,12 @@
 //! Conditions: where they begin, go on with another and end.
 
+ghost use Rattle.std.specs.Prelude.{◌≡◌, Bool, ◌++◌, ◌∷◌, [], true, false, IfSome, is_none, is_some, ◌==◌, length};
+ghost use Rattle.std.specs.Bool.{OnTrue, OnFalse};
+ghost use Rattle.rrs_asm_macros.specs.Conditions.{Begins, GoesOnWith, before_last, is_as, is_blank, is_else, is_end, next_part, unread};
+ghost use Rattle.rrs_asm_macros.specs.Expanding.{last_of};
+ghost use Rattle.rrs_asm_macros.specs.Operands.{Halts, is_slip};
+ghost use Rattle.rrs_asm_lines.specs.Lines.{behind_blanks};
+
 use crate::arguments::{take_all, take_string};
 use crate::cursor::Cursor;
 use crate::directives::{Comparison, Directive, Test};
@@ -16,7 +23,14 @@ pub fn begin<A: Allocator + Copy>(
     cursor: &mut Cursor,
     place: MacroError,
     reader: &mut Reader<A>,
-) {
+)
+    ensures one { OnTrue (is_none cursor.new.mistake) (Begins reader.old.conditions.items place
+        reader.new.conditions.items) }
+    ensures blank { (wanted : Bool) → test ≡ Test.Blank wanted → OnTrue (is_none cursor.new.mistake)
+        (reader.new.conditions.items ≡ reader.old.conditions.items ++ next_part
+        (unread place false)
+        (is_as (length (behind_blanks cursor.old.rest.now) == 0) wanted) false ∷ []) }
+{
     let holds = holds(tables, test, cursor);
     go_on(reader, Condition::new(place, false), holds, false, cursor);
 }
@@ -28,7 +42,14 @@ fn go_on<A: Allocator>(
     holds: bool,
     is_else: bool,
     cursor: &mut Cursor,
-) {
+)
+    ensures right { OnTrue (is_none cursor.new.mistake) (reader.new.conditions.items
+        ≡ reader.old.conditions.items ++ next_part condition holds is_else ∷ []) }
+    ensures wrong { OnTrue (is_some cursor.old.mistake) (OnTrue (is_slip cursor.new.mistake)
+        (reader.new.conditions.items
+        ≡ reader.old.conditions.items ++ unread condition.place true ∷ [])) }
+    ensures mistake { OnTrue (is_some cursor.old.mistake) (is_some cursor.new.mistake ≡ true) }
+{
     let next = match cursor.mistake {
         None => condition.or(holds, is_else),
         Some(_) => Condition::new(condition.place, true),
@@ -46,18 +67,56 @@ pub fn conclude<A: Allocator + Copy>(
     start: Slip,
     cursor: &mut Cursor,
     reader: &mut Reader<A>,
-) {
-    let Some(condition) = reader.conditions.pop() else {
+)
+    ensures none { reader.old.conditions.items ≡ [] → Halts cursor.old cursor.new
+        (Halt.Slip (record { kind = MacroErrorKind.NoCondition; left = start.left })) }
+    ensures ended { OnTrue (is_end directive)
+        (reader.new.conditions.items ≡ before_last reader.old.conditions.items) }
+    ensures next { IfSome (last_of reader.old.conditions.items) (λ last.
+        OnFalse (is_end directive) (OnTrue (is_none cursor.new.mistake)
+        (GoesOnWith (before_last reader.old.conditions.items) last (is_else directive)
+        reader.new.conditions.items))) }
+    ensures second { IfSome (last_of reader.old.conditions.items) (λ last.
+        OnFalse (is_end directive) (OnTrue last.is_behind_else
+        (is_some cursor.new.mistake ≡ true))) }
+{
+    let Some(condition) = pop(reader) else {
         return cursor.fail(start.with_kind(MacroErrorKind::NoCondition));
     };
     if let Directive::EndIf = directive {
         return cursor.end();
     }
+    let is_else = matches!(directive, Directive::Else);
+    proceed(tables, condition, is_else, start, cursor, reader);
+}
+
+/// Takes the innermost condition away.
+fn pop<A: Allocator>(reader: &mut Reader<A>) -> Option<Condition>
+    ensures last { result ≡ last_of reader.old.conditions.items }
+    ensures around { reader.new.conditions.items ≡ before_last reader.old.conditions.items }
+{
+    let last = reader.conditions.last().copied();
+    let _ = reader.conditions.pop();
+    last
+}
+
+/// Goes on with a condition by `.else` or `.elseif`, which begins at a place.
+fn proceed<A: Allocator + Copy>(
+    tables: &Tables<A>,
+    condition: Condition,
+    is_else: bool,
+    start: Slip,
+    cursor: &mut Cursor,
+    reader: &mut Reader<A>,
+)
+    ensures next { OnTrue (is_none cursor.new.mistake) (GoesOnWith
+        reader.old.conditions.items condition is_else reader.new.conditions.items) }
+    ensures second { OnTrue condition.is_behind_else (is_some cursor.new.mistake ≡ true) }
+{
     if condition.is_behind_else {
         cursor.keep(reader.conditions.push(condition).is_ok());
         return cursor.fail(start.with_kind(MacroErrorKind::SecondElse));
     }
-    let is_else = matches!(directive, Directive::Else);
     if is_else {
         cursor.end();
     }
@@ -70,7 +129,13 @@ pub fn conclude<A: Allocator + Copy>(
 }
 
 /// Whether what a condition asks holds.
-fn holds<A: Allocator + Copy>(tables: &Tables<A>, test: Test, cursor: &mut Cursor) -> bool {
+fn holds<A: Allocator + Copy>(tables: &Tables<A>, test: Test, cursor: &mut Cursor) -> bool
+    ensures blank { (wanted : Bool) → test ≡ Test.Blank wanted
+        → result ≡ (is_as (length (behind_blanks cursor.old.rest.now) == 0) wanted) }
+    ensures blank_kept { (wanted : Bool) → test ≡ Test.Blank wanted → cursor.new ≡ cursor.old }
+    ensures over { OnTrue (is_none cursor.new.mistake) (OnFalse (is_blank test)
+        (behind_blanks cursor.new.rest.now ≡ [])) }
+{
     match test {
         Test::Compared(comparison) => compares(tables, comparison, cursor),
         Test::Defined(wanted) => {
@@ -89,14 +154,18 @@ fn compares<A: Allocator + Copy>(
     tables: &Tables<A>,
     comparison: Comparison,
     cursor: &mut Cursor,
-) -> bool {
+) -> bool
+    ensures over { OnTrue (is_none cursor.new.mistake) (behind_blanks cursor.new.rest.now ≡ []) }
+{
     let value = value(cursor, &tables.symbols);
     cursor.end();
     comparison.holds(value, 0)
 }
 
 /// Takes two texts or strings with a comma between them, and returns whether they are the same.
-fn are_same<A: Allocator + Copy>(alloc: A, cursor: &mut Cursor, are_strings: bool) -> bool {
+fn are_same<A: Allocator + Copy>(alloc: A, cursor: &mut Cursor, are_strings: bool) -> bool
+    ensures over { OnTrue (is_none cursor.new.mistake) (behind_blanks cursor.new.rest.now ≡ []) }
+{
     let first = cursor.slip(MacroErrorKind::Strings);
     let one = text(alloc, cursor, are_strings, Some(b','));
     let comma = cursor.slip(MacroErrorKind::Strings);
