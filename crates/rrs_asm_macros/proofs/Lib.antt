@@ -2,3 +2,4 @@ pub mod Cutting
 pub mod Mapping
 pub mod Above
 pub mod Becoming
+mod Finding

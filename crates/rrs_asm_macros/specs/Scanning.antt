@@ -2,7 +2,9 @@
 -- string ends at a quotation mark, a character constant is one byte after an apostrophe, and may
 -- have another after it, and a backslash takes the next byte with it. A comment begins before its
 -- first byte, and goes on up to the end of the line.
-use Rattle.std.specs.Prelude.{ℕ, Bool, true, false, ◌&&◌, ◌||◌, ◌==◌, if◌then◌else◌, Option, Some, None}
+use Rattle.std.specs.Prelude.{ℕ, Bool, true, false, ◌&&◌, ◌||◌, ◌==◌, not, List, [], ◌∷◌, if◌then◌else◌, Option, Some, None}
+use Rattle.rrs_asm_lines.specs.Lines.{behind_blanks, behind_word, word}
+use Rattle.rrs_asm_macros.specs.Directives.{is_directive}
 use Rattle.rrs_asm_macros.specs.declared.scanning.Place.{Place}
 
 abbrev pub is_slash : Option ℕ → Bool
@@ -33,3 +35,14 @@ abbrev pub has_parameters : Place → Bool
 has_parameters Place.Character = false
 has_parameters Place.CharacterEscape = false
 has_parameters _ = true
+
+-- A label is a word that is no directive, before a colon.
+abbrev pub label : List ℕ → List ℕ → Option (List ℕ × List ℕ)
+label [] behind = None
+label (c ∷ cs) [] = None
+label (c ∷ cs) (b ∷ bs) =
+    if b == 58 && not (is_directive (c ∷ cs)) then Some (c ∷ cs, bs) else None
+
+-- the first label of a text, and what is after it
+abbrev pub first_label : List ℕ → Option (List ℕ × List ℕ)
+first_label text = label (word text) (behind_blanks (behind_word text))

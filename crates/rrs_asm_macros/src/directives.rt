@@ -2,8 +2,9 @@
 
 ghost use Rattle.std.specs.Prelude.{◌≡◌};
 ghost use Rattle.std.specs.List.{list_any};
+ghost use Rattle.std.specs.Map.{lookup};
 ghost use Rattle.std.specs.Str.{str_eq_ignore_ascii_case};
-ghost use Rattle.rrs_asm_macros.specs.Directives.{is_directive};
+ghost use Rattle.rrs_asm_macros.specs.Directives.{directive_named, is_directive};
 ghost use Rattle.rrs_asm_macros.specs.Conditions.{compares};
 
 /// What a condition asks of two values, or of one and zero.
@@ -118,11 +119,20 @@ fn are_same(one: &[u8], other: &[u8]) -> bool
 }
 
 /// The directive with a name, in capitals or not.
-pub fn directive_named(word: &[u8]) -> Option<Directive> {
+pub fn directive_named(word: &[u8]) -> Option<Directive>
+    ensures { result ≡ directive_named word.now }
+{
     if word.first() != Some(&b'.') {
         return None;
     }
-    for (name, directive) in &NAMES {
+    meaning_among(&NAMES, word)
+}
+
+/// The directive of a word that stands in a table, in capitals or not.
+fn meaning_among(table: &[(&[u8], Directive)], word: &[u8]) -> Option<Directive>
+    ensures { result ≡ lookup (λ name. str_eq_ignore_ascii_case word.now name.now) table.now }
+{
+    for (name, directive) in table {
         if are_same(word, name) {
             return Some(*directive);
         }

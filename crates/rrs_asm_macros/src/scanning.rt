@@ -1,11 +1,10 @@
 //! Cutting a text into statements, and a statement into labels, its first word and the rest.
 
-ghost use Rattle.std.specs.Prelude.{◌≡◌, ◌<◌};
+ghost use Rattle.std.specs.Prelude.{◌≡◌, MatchOption, None, Some};
 ghost use Rattle.std.specs.List.{list_any};
-ghost use Rattle.rrs_asm_lines.specs.Lines.{behind_blanks, word};
 ghost use Rattle.rrs_asm_macros.specs.Directives.{begins_one};
-ghost use Rattle.rrs_asm_macros.specs.Scanning.{has_parameters, place_after, plain_after};
-ghost use Rattle.rrs_asm_lines.specs.Lines.{is_line_feed, lines};
+ghost use Rattle.rrs_asm_macros.specs.Scanning.{first_label, has_parameters, place_after, plain_after};
+ghost use Rattle.rrs_asm_lines.specs.Lines.{lines};
 
 use crate::directives::is_directive;
 use rrs_asm_lines::{behind_blanks, first_line, split_word};
@@ -130,7 +129,10 @@ pub fn begins_directive(text: &[u8]) -> bool
 }
 
 /// The name of the first label of a text, and what is after it, if there is one.
-pub fn first_label(text: &[u8]) -> Option<(&[u8], &[u8])> {
+pub fn first_label(text: &[u8]) -> Option<(&[u8], &[u8])>
+    ensures { MatchOption result (first_label text.now ≡ None)
+        (λ label. first_label text.now ≡ Some (label.0.now, label.1.now)) }
+{
     let (word, rest) = split_word(text);
     match behind_blanks(rest) {
         [b':', others @ ..] if !word.is_empty() && !is_directive(word) => Some((word, others)),
