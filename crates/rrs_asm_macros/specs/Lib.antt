@@ -12,3 +12,4 @@ pub mod Expansion
 pub mod Forms
 pub mod Arguments
 pub mod Scanning
+pub mod Substitution

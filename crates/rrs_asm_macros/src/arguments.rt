@@ -119,6 +119,7 @@ fn take_kind(cursor: &mut Cursor) -> Kind {
 pub fn index_of<A: Allocator + Copy>(parameters: &[Parameter<A>], name: &[u8]) -> Option<usize>
     ensures found { IfSome result (λ i.
         HoldsAt (λ p. named name.now p ≡ true) parameters.now i) }
+    ensures within { IfSome result (λ i. i < length parameters.now) }
     ensures absent { IfNone result (has_name parameters.now name.now ≡ false) }
 {
     for (index, parameter) in parameters.iter().enumerate() {

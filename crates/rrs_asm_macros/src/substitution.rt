@@ -1,5 +1,13 @@
 //! A macro's body with arguments in the places of its parameters.
 
+ghost use Rattle.std.specs.Prelude.{◌≡◌, ◌⊎◌, ◌+◌, ◌<◌, [], ◌∷◌, Some, IfSome, IsSome, length, take};
+ghost use Rattle.std.specs.Bool.{OnTrue, OnFalse};
+ghost use Rattle.rrs_asm_lines.specs.Lines.{begins_with};
+ghost use Rattle.rrs_asm_macros.specs.Arguments.{has_name};
+ghost use Rattle.rrs_asm_macros.specs.Operands.{capped};
+ghost use Rattle.rrs_asm_macros.specs.Scanning.{has_parameters};
+ghost use Rattle.rrs_asm_macros.specs.Substitution.{IsValue, name_after, or_default, value_at};
+
 use crate::arguments::{Parameter, index_of};
 use crate::scanning::{Place, first_statement};
 use rrs_asm_lines::split_word;
@@ -42,7 +50,14 @@ fn piece<'a, A: Allocator + Copy>(
     parameters: &'a [Parameter<A>],
     values: &'a [Vec<u8, A>],
     number: &'a [u8],
-) -> (&'a [u8], usize) {
+) -> (&'a [u8], usize)
+    ensures character { OnFalse (has_parameters place)
+        ((result.0.now ≡ take 1 text.now) × (result.1 ≡ 1)) }
+    ensures plain { OnFalse (begins_with 92 text.now)
+        ((result.0.now ≡ take 1 text.now) × (result.1 ≡ 1)) }
+    ensures number { OnTrue (has_parameters place) (take 2 text.now ≡ 92 ∷ 64 ∷ []
+        → (result.0.now ≡ number.now) × (result.1 ≡ 2)) }
+{
     match text {
         [b'\\', others @ ..] if place.has_parameters() => match others {
             [b'(', inside @ ..] => literally(inside),
@@ -70,15 +85,29 @@ fn named<'a, A: Allocator + Copy>(
     others: &'a [u8],
     parameters: &'a [Parameter<A>],
     values: &'a [Vec<u8, A>],
-) -> (&'a [u8], usize) {
-    let name = match others {
-        [b'a'..=b'z' | b'A'..=b'Z' | b'_' | b'.' | b'$', ..] => split_word(others).0,
-        _ => &others[..0],
-    };
+) -> (&'a [u8], usize)
+    ensures taken { result.1 ≡ capped (length (name_after others.now) + 1) }
+    ensures known { OnTrue (has_name parameters.now (name_after others.now))
+        (length values.now ≡ length parameters.now
+        → IsValue parameters.now values.now (name_after others.now) result.0.now) }
+    ensures other { IsValue parameters.now values.now (name_after others.now) result.0.now
+        ⊎ (result.0.now ≡ take result.1 text.now) }
+{
+    let name = name_after(others);
     let taken = name.len().saturating_add(1);
     match value_of(parameters, values, name) {
         Some(value) => (value, taken),
         None => (text.get(..taken).unwrap_or(text), taken),
+    }
+}
+
+/// The name that stands after a backslash, which is empty where none does.
+fn name_after(text: &[u8]) -> &[u8]
+    ensures { result.now ≡ name_after text.now }
+{
+    match text {
+        [b'a'..=b'z' | b'A'..=b'Z' | b'_' | b'.' | b'$', ..] => split_word(text).0,
+        _ => &text[..0],
     }
 }
 
@@ -87,12 +116,36 @@ fn value_of<'a, A: Allocator + Copy>(
     parameters: &'a [Parameter<A>],
     values: &'a [Vec<u8, A>],
     name: &[u8],
-) -> Option<&'a [u8]> {
+) -> Option<&'a [u8]>
+    ensures value { IfSome result (λ value.
+        IsValue parameters.now values.now name.now value.now) }
+    ensures known { OnTrue (has_name parameters.now name.now)
+        (length values.now ≡ length parameters.now → IsSome result) }
+{
     let index = index_of(parameters, name)?;
-    match values.get(index)?.as_slice() {
-        [] => Some(&parameters.get(index)?.default),
-        value => Some(value),
-    }
+    value_in(parameters, values, index)
+}
+
+/// The value of the parameter in a place.
+fn value_in<'a, A: Allocator + Copy>(
+    parameters: &'a [Parameter<A>],
+    values: &'a [Vec<u8, A>],
+    index: usize,
+) -> Option<&'a [u8]>
+    ensures value { IfSome result (λ value.
+        value_at parameters.now values.now index ≡ Some value.now) }
+    ensures there { index < length parameters.now → index < length values.now → IsSome result }
+{
+    let parameter = parameters.get(index)?;
+    let value = values.get(index)?;
+    Some(or_default(value, &parameter.default))
+}
+
+/// A value, or the default where it is empty.
+fn or_default<'a>(value: &'a [u8], default: &'a [u8]) -> &'a [u8]
+    ensures { result.now ≡ or_default value.now default.now }
+{
+    if value.is_empty() { default } else { value }
 }
 
 /// A text without its comments.
