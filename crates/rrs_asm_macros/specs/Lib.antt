@@ -12,4 +12,5 @@ pub mod Expansion
 pub mod Forms
 pub mod Arguments
 pub mod Scanning
+pub mod Tables
 pub mod Substitution

@@ -51,3 +51,7 @@ pub record BeginsAgain {A : Type 0} (old new : Reader A) : Type 0 where
   pub one_less : old.copies ≡ new.copies + 1
   pub none : new.conditions.items ≡ []
   pub source_kept : new.is_source ≡ old.is_source
+
+-- It is at its head, and is read some times more.
+abbrev pub IsRepeated : {A : Type 0} → Reader A → ℕ → ℕ → Type 0
+IsRepeated new first height = IsAtHead new first height new.copies

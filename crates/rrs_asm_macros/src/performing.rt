@@ -1,12 +1,14 @@
 //! Performing a statement: what is put into the result, and what is read next.
 
-ghost use Rattle.std.specs.Prelude.{◌≡◌, ◌+◌, ◌<◌, ◌≤◌, [], true, None, Some, IfSome, IfNone, MatchOption, length, unwrap_or};
-ghost use Rattle.std.specs.Option.{option_map};
-ghost use Rattle.rrs_asm_lines.specs.Lines.{behind_blanks};
+ghost use Rattle.std.specs.Prelude.{◌≡◌, ◌+◌, ◌<◌, ◌≤◌, [], true, None, IfSome, IfNone, MatchOption, length, is_none, ◌^◌};
+ghost use Rattle.std.specs.Bool.{OnTrue, OnFalse};
+ghost use Rattle.rrs_asm_lines.specs.Lines.{behind_blanks, lines};
 ghost use Rattle.rrs_asm_macros.specs.Conditions.{is_skipped};
 ghost use Rattle.rrs_asm_macros.specs.Expanding.{line_of};
 ghost use Rattle.rrs_asm_macros.specs.Mistakes.{mistake_at};
-ghost use Rattle.rrs_asm_macros.specs.Operands.{capped};
+ghost use Rattle.rrs_asm_macros.specs.Directives.{is_counted, is_end_alone, is_exit, is_repetition};
+ghost use Rattle.rrs_asm_macros.specs.Operands.{Halts, capped};
+ghost use Rattle.rrs_asm_macros.specs.Reading.{IsRepeated};
 
 use crate::arguments::copied;
 use crate::blocks::{BlockKind, first_block, height};
@@ -236,7 +238,10 @@ fn call<A: Allocator + Copy>(
     word: &[u8],
     site: &Site,
     operands: &[u8],
-) -> Option<Frame<A>> {
+) -> Option<Frame<A>>
+    ensures counted { IfSome result (λ _. tables.new.calls ≡ capped (tables.old.calls + 1)) }
+    ensures mistake { IfSome result (λ _. tables.old.mistake ≡ None) }
+{
     let cursor = &mut Cursor::new(operands, site.behind);
     let lines = tables.called(word, cursor);
     tables.keep(cursor.mistake);
@@ -258,7 +263,12 @@ fn direct<A: Allocator + Copy>(
     code: &[u8],
     operands: &[u8],
     reader: &mut Reader<A>,
-) -> Turn<A> {
+) -> Turn<A>
+    ensures left { directive ≡ Directive.ExitMacro → OnFalse reader.old.is_source
+        (result ≡ Turn.Leave) }
+    ensures stays { OnFalse (is_repetition directive) (OnFalse (is_exit directive)
+        (result ≡ Turn.Stay)) }
+{
     let start = Cursor::new(code, site.behind).slip(MacroErrorKind::EndAlone);
     let cursor = &mut Cursor::new(operands, site.behind);
     let turn = match directive {
@@ -284,7 +294,12 @@ fn note<A: Allocator + Copy>(
     start: Slip,
     cursor: &mut Cursor,
     reader: &mut Reader<A>,
-) {
+)
+    ensures alone { OnTrue (is_end_alone directive)
+        (Halts cursor.old cursor.new (Halt.Slip start)) }
+    ensures nothing { directive ≡ Directive.ExitMacro → Halts cursor.old cursor.new
+        (Halt.Slip (record { kind = MacroErrorKind.NothingToLeave; left = start.left })) }
+{
     match directive {
         Directive::Purge => tables.purge(cursor),
         Directive::If(test) => begin(tables, test, cursor, place(site, start), reader),
@@ -350,7 +365,14 @@ fn repeat<A: Allocator + Copy>(
     inside: Option<&[u8]>,
     first: usize,
     cursor: &mut Cursor,
-) -> Option<Frame<A>> {
+) -> Option<Frame<A>>
+    ensures lines { IfSome result (λ frame. IfSome inside.entry (λ own.
+        IsRepeated frame.reader first (length (lines own.now)))) }
+    ensures once { OnFalse (is_counted directive) (IfSome result (λ frame.
+        frame.reader.copies ≡ 0)) }
+    ensures none { IfNone inside.entry (result ≡ None) }
+    ensures right { IfSome result (λ _. cursor.new.mistake ≡ None) }
+{
     let much = cursor.slip(MacroErrorKind::Much);
     let count = match directive {
         Directive::Repeat => count(tables, cursor),
@@ -374,7 +396,10 @@ fn repeat<A: Allocator + Copy>(
 }
 
 /// Takes how often a repetition is made.
-fn count<A: Allocator + Copy>(tables: &Tables<A>, cursor: &mut Cursor) -> u64 {
+fn count<A: Allocator + Copy>(tables: &Tables<A>, cursor: &mut Cursor) -> u64
+    ensures natural { OnTrue (is_none cursor.new.mistake) (result < 2 ^ 63) }
+    ensures over { OnTrue (is_none cursor.new.mistake) (behind_blanks cursor.new.rest.now ≡ []) }
+{
     let negative = cursor.slip(MacroErrorKind::Negative);
     let count = value(cursor, &tables.symbols);
     cursor.end();

@@ -1,5 +1,10 @@
 //! The symbols that a source has defined so far.
 
+ghost use Rattle.std.specs.Prelude.{◌≡◌, ℕ, List, false, None, Some, is_some};
+ghost use Rattle.std.specs.Bool.{OnFalse};
+ghost use Rattle.std.specs.Option.{option_and_then};
+ghost use Rattle.rrs_asm_macros.specs.Tables.{symbol_named};
+
 use crate::cursor::Cursor;
 use crate::scanning::first_label;
 use crate::values::value;
@@ -25,7 +30,10 @@ pub struct Symbols<A: Allocator> {
 
 impl<A: Allocator + Copy> Symbols<A> {
     /// None.
-    pub fn new(alloc: A) -> Self {
+    pub fn new(alloc: A) -> Self
+        ensures none { (name : List ℕ) → symbol_named name result ≡ None }
+        ensures long { result.is_short ≡ false }
+    {
         Symbols {
             alloc,
             values: BTreeMap::new(alloc),
@@ -34,17 +42,24 @@ impl<A: Allocator + Copy> Symbols<A> {
     }
 
     /// Whether a symbol is defined.
-    pub fn is_defined(&self, name: &[u8]) -> bool {
+    pub fn is_defined(&self, name: &[u8]) -> bool
+        ensures { result ≡ is_some (symbol_named name.now self.now) }
+    {
         self.values.get(name).is_some()
     }
 
     /// The value of a symbol, where it is a number that is known.
-    pub fn value_of(&self, name: &[u8]) -> Option<u64> {
+    pub fn value_of(&self, name: &[u8]) -> Option<u64>
+        ensures { result ≡ option_and_then (λ value. value) (symbol_named name.now self.now) }
+    {
         *self.values.get(name)?
     }
 
     /// Defines a symbol.
-    fn define(&mut self, name: &[u8], value: Option<u64>) {
+    fn define(&mut self, name: &[u8], value: Option<u64>)
+        ensures defined { OnFalse self.new.is_short
+            (symbol_named name.now self.new ≡ Some value) }
+    {
         let is_kept = match Vec::from_slice(self.alloc, name) {
             Ok(key) => self.values.insert(key, value).is_ok(),
             Err(_) => false,

@@ -1,5 +1,12 @@
 //! What is defined so far, and how much may still be read.
 
+ghost use Rattle.std.specs.Prelude.{◌≡◌, ◌+◌, ◌*◌, true, false, nat_le, Some, None, IfSome, IfNone, MatchOption, is_none, is_some};
+ghost use Rattle.std.specs.Bool.{OnTrue, OnFalse};
+ghost use Rattle.rrs_asm_macros.specs.Tables.{Spends, macro_named};
+ghost use Rattle.rrs_asm_macros.specs.Reading.{IsAtHead};
+ghost use Rattle.rrs_asm_lines.specs.Lines.{word};
+ghost use Rattle.rrs_asm_macros.specs.Operands.{capped};
+
 use crate::arguments::{Parameter, arguments, take_parameters};
 use crate::cursor::Cursor;
 use crate::directives::directive_named;
@@ -52,7 +59,12 @@ pub struct Tables<A: Allocator> {
 
 impl<A: Allocator + Copy> Tables<A> {
     /// Nothing is defined.
-    pub fn new(alloc: A) -> Self {
+    pub fn new(alloc: A) -> Self
+        ensures calls { result.calls ≡ 0 }
+        ensures left { result.left ≡ 0x4000000 }
+        ensures mistake { result.mistake ≡ None }
+        ensures long { result.symbols.is_short ≡ false }
+    {
         Tables {
             alloc,
             macros: BTreeMap::new(alloc),
@@ -64,20 +76,32 @@ impl<A: Allocator + Copy> Tables<A> {
     }
 
     /// Keeps a mistake, or that memory is missing, if something is and nothing was before.
-    pub fn keep(&mut self, mistake: Option<Halt>) {
+    pub fn keep(&mut self, mistake: Option<Halt>)
+        ensures first { IfNone self.old.mistake (self.new.mistake ≡ mistake) }
+        ensures others { OnTrue (is_some self.old.mistake) (self.new.mistake ≡ self.old.mistake) }
+        ensures macros_kept { self.new.macros ≡ self.old.macros }
+        ensures symbols_kept { self.new.symbols ≡ self.old.symbols }
+        ensures calls_kept { self.new.calls ≡ self.old.calls }
+        ensures left_kept { self.new.left ≡ self.old.left }
+    {
         if self.mistake.is_none() {
             self.mistake = mistake;
         }
     }
 
     /// Whether so many bytes may still be read, once and so often again.
-    pub fn has_left(&self, bytes: usize, copies: u64) -> bool {
+    pub fn has_left(&self, bytes: usize, copies: u64) -> bool
+        ensures { result ≡ nat_le (capped (capped (bytes + 1) * capped (copies + 1)))
+            self.now.left }
+    {
         let lines = (bytes as u64).saturating_add(1);
         lines.saturating_mul(copies.saturating_add(1)) <= self.left as u64
     }
 
     /// Counts bytes that are read.
-    pub fn spend(&mut self, bytes: usize, left: usize) {
+    pub fn spend(&mut self, bytes: usize, left: usize)
+        ensures { Spends self.old self.new bytes left }
+    {
         match self.left.checked_sub(bytes) {
             Some(rest) => self.left = rest,
             None => {
@@ -88,12 +112,20 @@ impl<A: Allocator + Copy> Tables<A> {
     }
 
     /// Counts lines of so many bytes that are read next: a call's, or a repetition's.
-    pub fn enter(&mut self, bytes: usize, left: usize) {
+    pub fn enter(&mut self, bytes: usize, left: usize)
+        ensures { Spends self.old self.new (capped (bytes + 256)) left }
+    {
         self.spend(bytes.saturating_add(OF_ENTRY), left);
     }
 
     /// Whether a word is the name of a macro, in capitals or not.
-    pub fn is_macro(&mut self, word: &[u8]) -> bool {
+    pub fn is_macro(&mut self, word: &[u8]) -> bool
+        ensures known { OnTrue result (is_some (macro_named word.now self.old) ≡ true) }
+        ensures unknown { OnTrue (is_none self.new.mistake)
+            (OnFalse result (macro_named word.now self.old ≡ None)) }
+        ensures macros_kept { self.new.macros ≡ self.old.macros }
+        ensures left_kept { self.new.left ≡ self.old.left }
+    {
         if self.macros.is_empty() {
             return false;
         }
@@ -145,7 +177,12 @@ impl<A: Allocator + Copy> Tables<A> {
     }
 
     /// Defines a macro with a name, parameters and a body.
-    pub fn define(&mut self, cursor: &mut Cursor, body: Option<Lines<A>>) {
+    pub fn define(&mut self, cursor: &mut Cursor, body: Option<Lines<A>>)
+        ensures defined { OnTrue (is_none self.new.mistake)
+            (is_some (macro_named (word cursor.old.rest.now) self.new) ≡ true) }
+        ensures duplicate { OnTrue (is_some (macro_named (word cursor.old.rest.now) self.old))
+            (is_some self.new.mistake ≡ true) }
+    {
         let slip = cursor.slip(MacroErrorKind::Duplicate);
         let name = cursor.name();
         cursor.skip_comma();
@@ -160,13 +197,16 @@ impl<A: Allocator + Copy> Tables<A> {
     }
 
     /// Adds a macro.
-    fn add(&mut self, name: &[u8], definition: Macro<A>) {
-        let is_kept = match name.to_ascii_lowercase(self.alloc) {
-            Ok(name) => self.macros.insert(name, definition).is_ok(),
-            Err(_) => false,
-        };
-        if !is_kept {
-            self.keep(Some(Halt::OutOfMemory));
+    fn add(&mut self, name: &[u8], definition: Macro<A>)
+        ensures { OnTrue (is_none self.new.mistake)
+            (macro_named name.now self.new ≡ Some definition) }
+    {
+        match name.to_ascii_lowercase(self.alloc) {
+            Ok(name) => match self.macros.insert(name, definition) {
+                Ok(_) => (),
+                Err(_) => self.keep(Some(Halt::OutOfMemory)),
+            },
+            Err(_) => self.keep(Some(Halt::OutOfMemory)),
         }
     }
 
@@ -182,7 +222,12 @@ impl<A: Allocator + Copy> Tables<A> {
     }
 
     /// Removes the macro that is named.
-    fn purge_one(&mut self, cursor: &mut Cursor) {
+    fn purge_one(&mut self, cursor: &mut Cursor)
+        ensures gone { OnTrue (is_none cursor.new.mistake)
+            (macro_named (word cursor.old.rest.now) self.new ≡ None) }
+        ensures known { OnTrue (is_none cursor.new.mistake)
+            (is_some (macro_named (word cursor.old.rest.now) self.old) ≡ true) }
+    {
         let slip = cursor.slip(MacroErrorKind::NoMacro);
         match cursor.name().to_ascii_lowercase(self.alloc) {
             Ok(name) => cursor.want(self.macros.remove(name.as_slice()).is_some(), slip),
@@ -205,7 +250,11 @@ impl<A: Allocator + Copy> Tables<A> {
     }
 
     /// The lines of a macro with the arguments of a call, if there are any.
-    fn lines_of(&self, definition: &Macro<A>, cursor: &mut Cursor) -> Option<Frame<A>> {
+    fn lines_of(&self, definition: &Macro<A>, cursor: &mut Cursor) -> Option<Frame<A>>
+        ensures lines { MatchOption result (definition.now.body ≡ None)
+            (λ frame. IfSome definition.now.body
+            (λ body. IsAtHead frame.reader body.first body.height 0)) }
+    {
         let parameters = &definition.parameters;
         let values = arguments(self.alloc, cursor, parameters);
         let body = definition.body.as_ref()?;
