@@ -122,18 +122,13 @@ class Places {
 /** The library's calls over one hart and one memory, which lie in the module's own memory. */
 class Kit {
   static async load(bytes) {
-    return Kit.of(await WebAssembly.compile(bytes));
+    const { module, instance } = await WebAssembly.instantiate(bytes, {});
+    return new Kit(instance.exports, module);
   }
 
-  /** A kit of a module, with a memory of its own. */
-  static of(module) {
-    const kit = new Kit(new WebAssembly.Instance(module, {}).exports);
-    kit.module = module;
-    return kit;
-  }
-
-  constructor(exports) {
+  constructor(exports, module) {
     this.exports = exports;
+    this.module = module;
     this.placeStructs();
     const buffer = exports.memory.buffer;
     this.u32 = new Uint32Array(buffer);
@@ -145,6 +140,11 @@ class Kit {
     this.changeAt = this.change / 4;
     this.recordsAt = this.records / 4;
     this.setMemory(0, PAGE_BYTES);
+  }
+
+  /** Another kit of the same module, with a memory of its own. */
+  apart() {
+    return new Kit(new WebAssembly.Instance(this.module, {}).exports, this.module);
   }
 
   /* Gives each struct a place behind what the module uses, and then the words, a second hart with

@@ -646,7 +646,7 @@ class LessonView {
 
   /* The session in which programs are judged, with a machine of its own. */
   get judging() {
-    this.judge ??= new Session(new Machine(Kit.of(this.session.machine.kit.module)));
+    this.judge ??= new Session(new Machine(this.session.machine.kit.apart()));
     return this.judge;
   }
 

@@ -160,15 +160,12 @@ def saved(browser):
     page.send("Page.close")
 
 
-def panel(machine):
+def panel(browser):
     """the editor is a panel: the exercise and the program of before stay, and one key runs the text"""
+    machine = open_keeping(browser)
     page = machine.page
-    # a lesson of its own, since what is solved of a lesson is kept
-    with tempfile.TemporaryDirectory() as name:
-        path = pathlib.Path(name) / "turns.txt"
-        path.write_text(LESSON.read_text().replace("Loops", "Turns"))
-        machine.give(path)
-        page.wait("document.getElementById('lesson-title').textContent === 'Turns'")
+    machine.give(LESSON)
+    page.wait("!document.getElementById('lesson').hidden")
     machine.keys("s")
     machine.keys("e")
     same("what is open, and what is in view", [None, True, True, True], [
@@ -200,9 +197,7 @@ def panel(machine):
     page.wait("!rrs.session.isRunning && $('exercise-check').className === 'check done'")
     same("where the focus is", ["listing", False], [
         page.ask("document.activeElement.id"), page.ask(IS_EDITING)])
-    machine.leave_fields()
-    machine.keys("q")
+    page.send("Page.close")
 
 
-OF_A_BROWSER = [text_stays, lesson_stays, cleared, saved]
-TRIALS = [panel]
+OF_A_BROWSER = [text_stays, lesson_stays, cleared, saved, panel]

@@ -374,7 +374,7 @@ IN_VIEW = """(() => {
 })()"""
 
 
-OFF = """[...document.querySelectorAll('[data-action][aria-disabled="true"]:not([hidden])')]
+OFF = """[...document.querySelectorAll('[data-action][aria-disabled="true"]:not(#lesson *)')]
     .map((button) => button.dataset.action)"""
 
 
