@@ -45,7 +45,8 @@ class Room {
     new ResizeObserver(() => {
       this.width = element.clientWidth;
       this.height = element.clientHeight;
-      onChange();
+      // a page that has no program yet shows it once it has
+      if (globalThis.rrs?.session.before !== undefined) onChange();
     }).observe(element);
   }
 }

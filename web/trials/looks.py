@@ -638,5 +638,5 @@ def pictures(machine):
 
 
 OF_A_BROWSER = [first_look]
-TRIALS = [accessibility_tree, focus, light, dark, boxes, boxes_of_a_lesson, one_screen, narrow,
+TRIALS = [focus, light, dark, boxes, boxes_of_a_lesson, one_screen, narrow,
           twice_as_large, nothing_moves, theme]
