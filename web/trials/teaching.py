@@ -609,5 +609,5 @@ def convention(machine):
 
 TRIALS = [
     assembly, while_one_types, long_sources, beside_scroll_bars, language_of_a_text,
-    assembly_from_elsewhere, lesson, lesson_of_cases, first_lesson, drafts, misses_by_names, convention,
+    assembly_from_elsewhere, lesson, first_lesson, drafts, misses_by_names, convention,
 ]
