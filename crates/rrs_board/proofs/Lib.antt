@@ -3,3 +3,7 @@ pub mod RegisterBytes
 pub mod BoardBytes
 pub mod Sessions
 pub mod Loaded
+pub mod RamSteps
+pub mod RamWords
+pub mod BoardLegs
+pub mod RamHalts

@@ -3,6 +3,7 @@
 use Rattle.std.specs.Prelude.{◌≡◌, ℕ, zero, suc, ◌+◌, ◌*◌, ◌^◌, ◌<◌, ◌≤◌, ◌&&◌, nat_le, nat_lt, Bool, true, false, List, length, replicate, Option, Some, None}
 use Rattle.rrs_lib.specs.Accesses.{MakesExactly}
 use Rattle.rrs_machine.specs.declared.machine.MachineAnswer.{MachineAnswer}
+use Rattle.rrs_machine.specs.Traps.{interrupt_due}
 use Rattle.rrs_machine.specs.MachineSteps.{MachineState, machine_of, MachineStep, AccessesOfMachineStep}
 use Rattle.rrs_board.specs.declared.board.Board.{Board}
 use Rattle.rrs_board.specs.declared.effects.BoardEvent.{BoardEvent}
@@ -48,6 +49,27 @@ BoardRun limit old steps (Some event) new =
     (mid : Board) × (answer : MachineAnswer) × (quiet : ℕ)
     × (steps ≡ suc quiet) × (steps ≤ limit)
     × QuietSteps quiet old mid × BoardStepped mid new answer (Some event)
+
+-- ---- steps that the devices have no part in
+
+-- The devices are heard of in none of so many steps, where these access no register of theirs:
+-- none has an access to answer to, no interrupt is due, the alarm does not come meanwhile, and time
+-- does not start again from 0.
+pub record IsQuiet (steps : ℕ) (b : Board) : Type 0 where
+  pub answered : b.memory.devices.access ≡ None
+  pub none_due : interrupt_due b.csrs (inputs_of b.memory.devices) ≡ None
+  pub no_alarm : b.memory.devices.time < b.memory.devices.alarm
+      → b.memory.devices.time + steps ≤ b.memory.devices.alarm
+  pub goes_on : b.memory.devices.time + steps < 2 ^ 64
+
+-- the board with no register as the one written last, which no step asks for
+abbrev pub forgetful : Board → Board
+forgetful b = record b { hart = record b.hart { last_register_write = None } }
+
+-- A leg makes so many quiet steps, and may forget which register was written last.
+abbrev pub BoardLeg : ℕ → Board → Board → Type 0
+BoardLeg steps old new =
+    (mid : Board) × QuietSteps steps old mid × (forgetful new ≡ forgetful mid)
 
 -- ---- where a board starts
 

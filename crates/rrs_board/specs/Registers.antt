@@ -6,6 +6,7 @@ use Rattle.std.specs.Prelude.{◌≡◌, ℕ, ◌+◌, ◌-◌, ◌*◌, ◌/◌
 use Rattle.std.specs.Bool.{OnTrue, OnFalse}
 use Rattle.rrs_memory.specs.declared.MemAccessSize.{MemAccessSize}
 use Rattle.rrs_memory.specs.Bytes.{ByteMap, width}
+use Rattle.rrs_memory.specs.declared.memories.VecMemory.{VecMemory}
 use Rattle.rrs_memory.specs.VecBytes.{vec_layout, VecWrites}
 use Rattle.rrs_memory.specs.SliceBytes.{bytes_from, lies_from}
 use Rattle.rrs_board.specs.declared.devices.Devices.{Devices}
@@ -90,11 +91,27 @@ pub record DeviceWrites (old : Devices) (address : ℕ) (size : MemAccessSize) (
       (with_bytes word value (width size) (address % 4))) address true)
   pub refused : OnFalse answer (new ≡ old)
 
--- ---- the memory of the board
+-- ---- RAM as a memory of its own
 
 -- where RAM begins
 abbrev pub ram_start : ℕ
 ram_start = 0x80000000
+
+-- below that it has no byte
+abbrev pub ram_bytes : VecMemory → ByteMap
+ram_bytes m = bytes_from ram_start m.mem.items
+
+abbrev pub ram_writable : VecMemory → ℕ → Bool
+ram_writable m = lies_from ram_start m.mem.items
+
+-- a write that is granted is one of its words, and another changes nothing
+pub record RamWrites (old : VecMemory) (address : ℕ) (size : MemAccessSize) (value : ℕ)
+    (new : VecMemory) (answer : Bool) : Type 0 where
+  pub of_words : OnTrue answer ((ram_start ≤ address)
+      × VecWrites old (address - ram_start) size value new true)
+  pub refused : OnFalse answer (new ≡ old)
+
+-- ---- the memory of the board
 
 abbrev pub board_bytes : BoardMemory → ByteMap
 board_bytes m a =

@@ -1,11 +1,11 @@
 -- A board at a terminal. What the program transmits is printed, and what is typed arrives at its
 -- UART. Between two runs of the board a byte may arrive, where the UART holds none. When that is so
 -- is no part of this: a person types when he likes.
-use Rattle.std.specs.Prelude.{◌≡◌, ℕ, ◌+◌, ◌-◌, Bool, true, List, [], ◌∷◌, ◌++◌, Option, Some, None, IfSome}
+use Rattle.std.specs.Prelude.{◌≡◌, ℕ, ◌+◌, ◌-◌, Bool, true, List, [], ◌∷◌, ◌++◌, nat_lt, if◌then◌else◌, Option, Some, None, IfSome}
 use Rattle.std.specs.Io.KnownBytes.{Appends, Consumes, Keeps}
 use Rattle.rrs_board.specs.declared.board.Board.{Board}
 use Rattle.rrs_board.specs.declared.effects.BoardEvent.{BoardEvent}
-use Rattle.rrs_board.specs.declared.effects.BoardEvent.TheVariants.{Transmitted, Finished, NothingWakes}
+use Rattle.rrs_board.specs.declared.effects.BoardEvent.TheVariants.{Transmitted, Looked, Finished, NothingWakes}
 use Rattle.rrs_board.specs.declared.terminal.TerminalError.{TerminalError}
 use Rattle.rrs_board.specs.declared.terminal.TerminalError.TheVariants.{Input}
 use Rattle.rrs_board.specs.Effects.{arrived, waits_for_input}
@@ -127,3 +127,10 @@ pub record Untouched (old new : Board) (input rest before after : Option (List �
   pub same : new ≡ old
   pub consumed : Consumes input rest []
   pub kept : Keeps before after
+
+-- How many looks in a row found no byte, with none transmitted between them, after an event. The
+-- thousandth asks for input, and they are counted anew.
+abbrev pub looks_after : BoardEvent → ℕ → ℕ
+looks_after (Transmitted byte) looks = 0
+looks_after Looked looks = if nat_lt (looks + 1) 1000 then looks + 1 else 0
+looks_after event looks = looks

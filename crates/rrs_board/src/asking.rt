@@ -1,7 +1,8 @@
 //! When a driver asks the host for input. That is its own choice: by the definition of the board a
 //! byte may arrive after any step.
 
-ghost use Rattle.std.specs.Prelude.{◌≡◌, false, not};
+ghost use Rattle.std.specs.Prelude.{◌≡◌, ◌+◌, ◌<◌, ◌≤◌, false, not};
+ghost use Rattle.std.specs.Bool.{OnTrue, OnFalse};
 
 /// So many looks in a row at LSR or IIR, which find no byte and between which nothing is
 /// transmitted, ask for input.
@@ -24,6 +25,7 @@ impl Asking {
     pub fn new(is_polled: bool) -> Asking
         ensures seen { result.has_ended ≡ false }
         ensures polled { result.is_polled ≡ is_polled }
+        ensures looks { result.looks ≡ 0 }
     {
         Asking {
             is_polled,
@@ -36,6 +38,9 @@ impl Asking {
     pub fn count_look(&mut self) -> bool
         ensures ended { self.new.has_ended ≡ self.old.has_ended }
         ensures polled { self.new.is_polled ≡ self.old.is_polled }
+        ensures enough { OnTrue result ((1000 ≤ self.old.looks + 1) × (self.new.looks ≡ 0)) }
+        ensures counted { OnFalse result ((self.old.looks + 1 < 1000)
+            × (self.new.looks ≡ self.old.looks + 1)) }
     {
         self.looks = self.looks.saturating_add(1);
         if self.looks < LOOKS {
@@ -49,6 +54,7 @@ impl Asking {
     pub fn note_output(&mut self)
         ensures ended { self.new.has_ended ≡ self.old.has_ended }
         ensures polled { self.new.is_polled ≡ self.old.is_polled }
+        ensures looks { self.new.looks ≡ 0 }
     {
         self.looks = 0;
     }
@@ -57,6 +63,7 @@ impl Asking {
     pub fn note_none(&mut self)
         ensures ended { self.new.has_ended ≡ not self.old.is_polled }
         ensures polled { self.new.is_polled ≡ self.old.is_polled }
+        ensures looks { self.new.looks ≡ self.old.looks }
     {
         self.has_ended = !self.is_polled;
     }

@@ -1,6 +1,6 @@
 //! What the devices do between two steps.
 
-ghost use Rattle.std.specs.Prelude.{◌≡◌, ◌+◌, ◌/◌, ◌%◌, ◌^◌, ◌<◌, ◌==◌};
+ghost use Rattle.std.specs.Prelude.{◌≡◌, ◌+◌, ◌/◌, ◌%◌, ◌^◌, ◌<◌, ◌≤◌, ◌==◌};
 ghost use Rattle.rrs_board.specs.Clint.{can_wake};
 ghost use Rattle.rrs_board.specs.Finisher.{status_of};
 ghost use Rattle.rrs_board.specs.Effects.{inputs_of, shown_word, showing, wrote, looked_at, transmits, finds_none, byte_at, uart_after, answered_access, answered, ended_with, access_event, ticked, waited, settled, event_after, arrived, waits_for_input};
@@ -96,6 +96,27 @@ impl Devices {
             timer: self.alarm <= self.time,
             time: self.time,
         }
+    }
+
+    /// How many units of time may pass before the alarm comes, or time starts again from 0.
+    pub(crate) fn time_left(&self) -> u64
+        ensures alarm { self.now.time < self.now.alarm
+            → self.now.time + result ≤ self.now.alarm }
+        ensures goes_on { self.now.time + result < 2 ^ 64 }
+    {
+        if self.time < self.alarm {
+            self.alarm - self.time
+        } else {
+            u64::MAX - self.time
+        }
+    }
+
+    /// Lets so many units of time pass.
+    pub(crate) fn pass(&mut self, units: u64)
+        requires { self.old.time + units < 2 ^ 64 }
+        ensures { self.new ≡ record self.old { time = self.old.time + units } }
+    {
+        self.time += units;
     }
 
     /// Hands the UART a byte that arrives. Where it holds one already, the byte is lost: ask

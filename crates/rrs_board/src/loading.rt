@@ -47,13 +47,12 @@ impl Board {
             Ok(executable) => executable,
             Err(error) => return Err(BoardError::Elf(error)),
         };
-        let ram = match vec![in alloc; 0; words] {
+        let mut ram = match vec![in alloc; 0; words] {
             Ok(ram) => ram,
             Err(_) => return Err(BoardError::OutOfMemory),
         };
-        let mut board = Board::new(VecMemory::new(ram), executable.entry());
-        match load_words(&executable, &mut board.memory.ram.mem) {
-            Ok(()) => Ok(board),
+        match load_words(&executable, &mut ram) {
+            Ok(()) => Ok(Board::new(VecMemory::new(ram), executable.entry())),
             Err(refused) => Err(BoardError::Refused(refused.address)),
         }
     }

@@ -5,7 +5,7 @@ ghost use Rattle.std.specs.Bool.{OnTrue, OnFalse};
 ghost use Rattle.std.specs.Io.KnownBytes.{Appends, Consumes, Keeps, IsAtEnd};
 ghost use Rattle.rrs_board.specs.Effects.{waits_for_input};
 ghost use Rattle.rrs_board.specs.declared.effects.BoardEvent.{BoardEvent};
-ghost use Rattle.rrs_board.specs.Terminals.{Asks, EndsBy, GoesOn, Asked, Untouched, EndedSession, StoppedSession};
+ghost use Rattle.rrs_board.specs.Terminals.{looks_after, Asks, EndsBy, GoesOn, Asked, Untouched, EndedSession, StoppedSession};
 
 use crate::asking::Asking;
 use crate::board::{Board, BoardEnd};
@@ -94,6 +94,10 @@ fn serve<R: Read, W: Write>(
         (W.contents output.old) (W.contents output.new)) }
     ensures polled { asking.old.is_polled ≡ true → asking.old.has_ended ≡ false
         → (asking.new.is_polled ≡ true) × (asking.new.has_ended ≡ false) }
+    ensures looks { asking.new.looks ≡ looks_after event asking.old.looks }
+    ensures waits { event ≡ BoardEvent.Waits → asking.old.is_polled ≡ false → Untouched
+        board.old board.new (R.remaining input.old) (R.remaining input.new)
+        (W.contents output.old) (W.contents output.new) }
 {
     match event {
         BoardEvent::Transmitted(byte) => {
@@ -140,6 +144,7 @@ fn ask<R: Read, W: Write>(
         (W.contents output.old) (W.contents output.new)) }
     ensures polled { asking.old.is_polled ≡ true → asking.old.has_ended ≡ false
         → (asking.new.is_polled ≡ true) × (asking.new.has_ended ≡ false) }
+    ensures looks { asking.new.looks ≡ asking.old.looks }
 {
     if asking.has_ended {
         return Ok(false);

@@ -36,7 +36,7 @@ pub fn show_ram(
     }
     let left = u32::MAX - address + 1;
     let ram = &mut board.memory.ram;
-    let bytes = read_memory(alloc, ram, address - RAM_START, count.min(left))?;
+    let bytes = read_memory(alloc, ram, address, count.min(left))?;
     Ok(bytes)
 }
 
@@ -56,5 +56,5 @@ pub fn change_ram(board: &mut Board, address: u32, values: &[u8]) -> bool
     if address < RAM_START || values.len() > 0x1_0000_0000 - address as usize {
         return false;
     }
-    write_memory(&mut board.memory.ram, address - RAM_START, values)
+    write_memory(&mut board.memory.ram, address, values)
 }

@@ -210,7 +210,7 @@ impl CsrFile {
     }
 
     /// Counts so many instructions that retire.
-    pub(crate) fn count_retired_times(&mut self, times: u64)
+    pub fn count_retired_times(&mut self, times: u64)
         ensures { self.new ≡ retired_times times self.old }
     {
         let (no_cycles, no_instructions) = (

@@ -112,6 +112,29 @@ def mixed_loop():
     ]
 
 
+def timed(loop):
+    """Firmware that runs a loop, and sets the alarm again at each interrupt of its timer."""
+    return [
+        0x0000_0297,  # auipc x5, 0
+        addi(5, 5, 48),
+        0x3052_9073,  # csrrw x0, mtvec, x5
+        addi(5, 0, 0x80),
+        0x3042_9073,  # csrrw x0, mie, x5
+        0x0200_4d37,  # lui x26, 0x2004
+        0x0000_2f37,  # lui x30, 2
+        addi(30, 30, 10_000 - 8192),
+        0x000d_2223,  # sw x0, 4(x26)
+        0x01ed_2023,  # sw x30, 0(x26)
+        0x3004_6073,  # csrrsi x0, mstatus, 8
+        jal(20),
+        0x000d_2f83,  # lw x31, 0(x26)
+        0x01ef_8fb3,  # add x31, x31, x30
+        0x01fd_2023,  # sw x31, 0(x26)
+        0x3020_0073,  # mret
+        *loop,
+    ]
+
+
 def packets(limit, history=None):
     """What gdb would send for a continue of so many steps."""
     wanted = [f"limit {limit}"] + ([] if history is None else [f"history {history}"])
@@ -215,7 +238,7 @@ def commands(room, with_plain):
     for file in [*PROGRAMS, raw]:
         with open(file, "rb") as code:
             elf[file] = made(room, name_of(file), executable(code.read()))
-    board = made(room, "board", executable(words_of(mixed_loop()), 0x8000_0000))
+    board = made(room, "board", executable(words_of(timed(mixed_loop())), 0x8000_0000))
 
     def by_program(command, **more):
         columns = {name_of(file): Count(command(file), **more) for file in PROGRAMS}

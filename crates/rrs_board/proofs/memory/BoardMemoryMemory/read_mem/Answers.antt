@@ -2,7 +2,7 @@
 use Rattle.std.proofs.Common.{◌≤◌, sym, ◌∙◌, refl, arith, rules}
 use Rattle.rrs_memory.specs.Bytes.{width}
 use Rattle.rrs_memory.specs.SliceBytes.{bytes_from, lies_from}
-use Rattle.rrs_memory.proofs.SliceWords.{value_from, lawful_from, ends_from}
+use Rattle.rrs_memory.proofs.SliceWords.{lawful_from, ends_from}
 use Rattle.rrs_board.specs.Registers.{device_bytes, device_writable, ram_start}
 use Rattle.rrs_board.proofs.RegisterBytes.{lawful_devices}
 use Rattle.rrs_board.proofs.BoardBytes.{low_value, high_value, split_lawful, split_ends}
@@ -39,8 +39,7 @@ returns-else-addr-lt-RAM_START-clause-laws c =
     let whigh = lies_from ram_start words in
     let from : ram_start ≤ a = omega (arith, c.if-addr-lt-RAM_START.false) in
     record {
-      value = laws.value ∙ sym (high_value (device_bytes d) high (device_writable d) whigh a n from
-          ∙ value_from ram_start a c.args.size c.requires (omega arith) words from);
+      value = laws.value ∙ sym (high_value (device_bytes d) high (device_writable d) whigh a n from);
       bytes_kept = search rules;
       writable_kept = search rules;
       layout_kept = search rules;
