@@ -2,11 +2,12 @@
 
 use crate::board_debugging::debug_board;
 use rrs_cli::loading::load;
-use rrs_exec::{DECODED_WORDS, Image, LoadedProcess, ProtectedMemory, load_process, started};
+use rrs_exec::{
+    DECODED_WORDS, Image, LoadedProcess, ProcessMemory, ProtectedMemory, load_process, started,
+};
 use rrs_fast::{CachedMemory, Ending, OwnCache};
 use rrs_gdb::{Link, LinkError, SessionEnd, SessionState, Settings, serve};
 use rrs_lib::instruction_executor::InstructionExecutor;
-use rrs_lib::memories::SliceMemory;
 use rrs_lib::{HartState, Memory};
 use rrs_linux::{Heap, OutputRecorder};
 use rrs_run_commands::debugger::Debugger;
@@ -134,13 +135,9 @@ fn debug_executable<'f, 'a, R: Read, W: Write>(
     let arguments = words_of(alloc, &program.request, state)?;
     let memory = memory_for(program.file, program.request.memory);
     let loaded = load_process(alloc, program.file, &arguments, memory);
-    let LoadedProcess { image, mut words } = match loaded {
+    let LoadedProcess { image, memory } = match loaded {
         Ok(process) => process,
         Err(error) => return Err(no_image(path, error)),
-    };
-    let memory = SliceMemory {
-        words: &mut words,
-        base: image.layout.base,
     };
     debug_image(alloc, image, memory, program.input, state, link)
 }
@@ -149,7 +146,7 @@ fn debug_executable<'f, 'a, R: Read, W: Write>(
 fn debug_image<'f, 'a, R: Read, W: Write>(
     alloc: Global,
     image: Image,
-    memory: SliceMemory<'_>,
+    memory: ProcessMemory,
     input: &'f [u8],
     state: &mut SessionState<'f>,
     link: &mut Link<R, W>,

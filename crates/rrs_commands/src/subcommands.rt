@@ -62,7 +62,7 @@ const EXECUTE: Subcommand = Subcommand {
     },
     summary: "runs a program that makes system calls of Linux",
     help: "Runs PROGRAM, an ELF executable for RV32IM, as a process of Linux with these
-ARGUMENTs: in a memory of 16 MiB, or of what it needs up to 1 GiB (--memory, up to
+ARGUMENTs: in a memory of 256 MiB, or of what it needs up to 1 GiB (--memory, up to
 4G), with its heap after its segments, its stack at the end, and a gap between them;
 code and constants are read-only. It makes at most STEPS steps, of which each system
 call is one, or any number. The program has standard input, output and error. A fault

@@ -5,4 +5,7 @@ pub mod StackWords
 pub mod Filling
 pub mod Bounds
 pub mod OneLayout
-pub mod Lying
+pub mod ZeroBytes
+pub mod ProcessBytes
+pub mod ProcessAccesses
+pub mod Stretches

@@ -2,6 +2,9 @@
 -- it is to run an executable as one. Definitions of rrs_linux that contracts here cite are passed
 -- on.
 pub use Rattle.rrs_linux.specs.SystemCalls
+pub mod ZeroWords
+pub mod ProcessPlaces
+pub mod ProcessMemories
 pub mod Protection
 pub mod InitialStack
 pub mod Layouts

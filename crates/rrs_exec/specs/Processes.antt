@@ -1,13 +1,13 @@
 -- What it is to run an executable as a process that makes system calls.
-use Rattle.std.specs.Prelude.{◌≡◌, ℕ, ◌+◌, ◌-◌, ◌*◌, ◌/◌, Bool, List, ◌∷◌, length, replicate, Option, None}
+use Rattle.std.specs.Prelude.{◌≡◌, ℕ, Bool, List, ◌∷◌, replicate, Option, None}
 use Rattle.rrs_lib.specs.Bytes.{ByteMap}
 use Rattle.rrs_lib.specs.AccessLists.{Access}
 use Rattle.rrs_lib.specs.Machine.{State}
-use Rattle.rrs_lib.specs.SliceBytes.{bytes_from, lies_from}
 use Rattle.rrs_elf.specs.Executables.{IsExecutable}
 use Rattle.rrs_exec.specs.declared.image.Image.{Image}
 use Rattle.rrs_exec.specs.Protection.{bytes_under, writable_under}
 use Rattle.rrs_exec.specs.Images.{IsImage, Filled}
+use Rattle.rrs_exec.specs.ProcessMemories.{lies_between, zeros_between}
 use Rattle.rrs_fast.specs.declared.serving.Ending.{Ending}
 use Rattle.rrs_fast.specs.Serving.{Served}
 use Rattle.rrs_linux.specs.declared.Heap.{Heap}
@@ -35,16 +35,15 @@ heap_of image = record {
 }
 
 -- A process is loaded and has made no step: a file is an executable, an image is one of it, and its
--- segments and its stack stand in words, which are 0 elsewhere.
+-- segments and its stack stand in a memory that is writable from the first address to the end, and
+-- that is 0 elsewhere.
 pub record IsLoaded (file : List ℕ) (arguments : List (List ℕ)) (wanted : ℕ) (image : Image)
-    (words : List ℕ) : Type 0 where
+    (bytes : ByteMap) (writable : ℕ → Bool) : Type 0 where
   pub executable : IsExecutable file
   pub is_image : IsImage file arguments wanted image
-  pub long : image.layout.base + 4 * length words ≡ image.layout.end
+  pub long : writable ≡ lies_between image.layout.base image.layout.end
   pub filled : Filled file image.stack_pointer image.stack.items
-      (bytes_from image.layout.base
-      (replicate ((image.layout.end - image.layout.base) / 4) 0))
-      (bytes_from image.layout.base words)
+      (zeros_between image.layout.base image.layout.end) bytes
 
 -- By what is known of the environment's reader and writers:
 module _ {R W E : Type 0} (remaining : R → Option (List ℕ))
@@ -70,7 +69,7 @@ module _ {R W E : Type 0} (remaining : R → Option (List ℕ))
       (old new : Process R (HostWriter W) (HostWriter E) HostSide)
       (steps pc : ℕ) (ending : Ending) : Type 0 where
     pub image : Image
-    pub words : List ℕ
-    pub loaded : IsLoaded file arguments wanted image words
-    pub runs : RunsImage image (bytes_from image.layout.base words)
-        (lies_from image.layout.base words) limit old new steps pc ending
+    pub bytes : ByteMap
+    pub writable : ℕ → Bool
+    pub loaded : IsLoaded file arguments wanted image bytes writable
+    pub runs : RunsImage image bytes writable limit old new steps pc ending

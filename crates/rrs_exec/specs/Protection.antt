@@ -5,11 +5,11 @@ use Rattle.std.specs.Prelude.{◌≡◌, ℕ, ◌+◌, ◌*◌, ◌/◌, ◌<◌
 use Rattle.std.specs.Bool.{OnTrue, OnFalse}
 use Rattle.rrs_memory.specs.declared.MemAccessSize.{MemAccessSize}
 use Rattle.rrs_memory.specs.Bytes.{ByteMap, width, store}
-use Rattle.rrs_memory.specs.SliceBytes.{slice_bytes, slice_writable, slice_layout, StaysLent}
 use Rattle.rrs_exec.specs.declared.marks.PageRange.{PageRange}
 use Rattle.rrs_exec.specs.declared.marks.Protection.{Protection}
 use Rattle.rrs_exec.specs.declared.marks.Protection.TheVariants.{Unmapped, ReadOnly, Writable}
 use Rattle.rrs_exec.specs.declared.protected.ProtectedMemory.{ProtectedMemory}
+use Rattle.rrs_exec.specs.ProcessMemories.{process_bytes, process_writable, process_layout}
 
 abbrev pub is_mapped : Protection → Bool
 is_mapped Unmapped = false
@@ -66,13 +66,13 @@ writable_under marks writable a =
     if is_writable (mark_at marks a) then writable a else false
 
 abbrev pub protected_bytes : ProtectedMemory → ByteMap
-protected_bytes m = bytes_under m.marks.items (slice_bytes m.memory)
+protected_bytes m = bytes_under m.marks.items (process_bytes m.memory)
 
 abbrev pub protected_writable : ProtectedMemory → ℕ → Bool
-protected_writable m = writable_under m.marks.items (slice_writable m.memory)
+protected_writable m = writable_under m.marks.items (process_writable m.memory)
 
 abbrev pub protected_layout : ProtectedMemory → List ℕ
-protected_layout m = slice_layout m.memory
+protected_layout m = process_layout m.memory
 
 -- a read leaves the whole value
 abbrev pub protected_reads : ProtectedMemory → ℕ → MemAccessSize → ProtectedMemory → Option ℕ
@@ -85,5 +85,4 @@ pub record ProtectedWrites (old : ProtectedMemory) (address : ℕ) (size : MemAc
   pub written : OnTrue answer
       (protected_bytes new ≡ store (protected_bytes old) address (width size) value)
   pub refused : OnFalse answer (new ≡ old)
-  pub lent : StaysLent old.memory new.memory
   pub marks_kept : new.marks ≡ old.marks

@@ -6,7 +6,6 @@ use Rattle.rrs_lib.specs.Bytes.{ByteMap}
 use Rattle.rrs_lib.specs.Accesses.{Access, AccessesOf}
 use Rattle.rrs_lib.specs.Machine.{State}
 use Rattle.rrs_lib.specs.Steps.{Step}
-use Rattle.rrs_lib.specs.SliceBytes.{bytes_from, lies_from}
 use Rattle.rrs_trace.specs.declared.retired.Retired.{Retired}
 use Rattle.rrs_trace.specs.Retired.{Retires}
 use Rattle.rrs_exec.specs.declared.image.Image.{Image}
@@ -130,6 +129,5 @@ module _ {R W E V : Type 0} (remaining : R → Option (List ℕ))
         file arguments wanted most old new steps pc ending
     pub shown : Shown (Serves remaining contents errors_of) sees wants
         (record old { heap = heap_of runs.image })
-        (start_in runs.image (bytes_from runs.image.layout.base runs.words)
-        (lies_from runs.image.layout.base runs.words)) v
+        (start_in runs.image runs.bytes runs.writable) v
         ending steps new runs.runs.end v'

@@ -1,7 +1,6 @@
 //! What a process starts from: an executable's entry, its stack, and the marks of its pages.
 
 ghost use Rattle.std.specs.Prelude.{◌≡◌, ◌≤◌, ◌<◌, ◌+◌, ◌%◌, ◌++◌, ◌∷◌, [], ℕ, List, map, string_bytes, IsOk, IfOk, IfErr, OnOk, MatchOption, None, Err, length};
-ghost use Rattle.rrs_memory.specs.SliceBytes.{StaysLent, slice_bytes, slice_writable, bytes_from, lies_from};
 ghost use Rattle.rrs_fast.specs.Serving.{MakesSome};
 ghost use Rattle.rrs_elf.specs.Headers.{e_phnum, p_vaddr};
 ghost use Rattle.rrs_elf.specs.Loading.{loaded_size};
@@ -15,7 +14,7 @@ use crate::marks::{PAGE_BYTES, PageRange, Protection, marks_of};
 use crate::stack::{ProgramHeaders, initial_stack, stack_pointer};
 use rrs_elf::{ElfError, Executable, ProgramHeader};
 use rrs_memory::Memory;
-use rrs_memory::memories::{LoadFault, SliceMemory, read_to_memory};
+use rrs_memory::memories::{LoadFault, read_to_memory};
 use std::alloc::{AllocError, Global};
 
 /// Why an executable can't be made a process.
@@ -351,45 +350,4 @@ pub fn fill<M: Memory>(
         Err(LoadFault::EndOfAddresses) => Err(ImageError::Refused(sp)),
         Err(LoadFault::Reader(_)) => Err(ImageError::OutOfMemory),
     }
-}
-
-/// The same of words that are lent, which stay lent.
-fn fill_lent<'a>(
-    executable: &Executable<'_>,
-    sp: u32,
-    stack: &[u8],
-    memory: &mut SliceMemory<'a>,
-) -> Result<(), ImageError>
-    requires { (i j : ℕ) → i < e_phnum executable.now.file.now
-        → j < loaded_size executable.now.file.now i
-        → p_vaddr executable.now.file.now i + j < sp }
-    ensures filled { OnOk result (Filled executable.now.file.now sp stack.now
-        (slice_bytes memory.old) (slice_bytes memory.new)) }
-    ensures lent { OnOk result (StaysLent memory.old memory.new) }
-    ensures fillable { IsFillable executable.now.file.now sp (length stack.now)
-        (slice_writable memory.old) → IfErr result (λ error. error ≡ ImageError.OutOfMemory) }
-{
-    fill(executable, sp, stack, memory)?;
-    Ok(())
-}
-
-/// The same of words, the first of which has an address.
-pub(crate) fn fill_words(
-    executable: &Executable<'_>,
-    sp: u32,
-    stack: &[u8],
-    base: u32,
-    words: &mut [u32],
-) -> Result<(), ImageError>
-    requires { (i j : ℕ) → i < e_phnum executable.now.file.now
-        → j < loaded_size executable.now.file.now i
-        → p_vaddr executable.now.file.now i + j < sp }
-    ensures filled { OnOk result (Filled executable.now.file.now sp stack.now
-        (bytes_from base words.old) (bytes_from base words.new)) }
-    ensures length_kept { OnOk result (length words.new ≡ length words.old) }
-    ensures fillable { IsFillable executable.now.file.now sp (length stack.now)
-        (lies_from base words.old) → IfErr result (λ error. error ≡ ImageError.OutOfMemory) }
-{
-    let mut memory = SliceMemory { words, base };
-    fill_lent(executable, sp, stack, &mut memory)
 }

@@ -1,14 +1,13 @@
 //! Runs of executables as processes of Linux.
 //!
 //! What a program finds where it starts: a memory whose pages are mapped, read-only or writable,
-//! and a stack with its arguments. [ProtectedMemory] is a memory of any type under marks, one a
-//! page. [initial_stack] makes the block of bytes that lies at the stack pointer, and
+//! and a stack with its arguments. [ProcessMemory] is 0 until it is written, and takes no memory of
+//! the host until then. [ProtectedMemory] is one under marks, one a page. [initial_stack] makes the block of bytes that lies at the stack pointer, and
 //! [stack_pointer] says where that is. [image_of] puts these together for an executable, and [fill]
 //! writes them into a memory. What they are is written in `specs/Protection.antt`,
 //! `specs/InitialStack.antt`, `specs/Layouts.antt` and `specs/Images.antt`.
 //!
-//! [load_process] makes a process of the bytes of an ELF file: its image, and the words of its
-//! memory. [execute_process] runs it and serves its system calls. What that is, is written in
+//! [load_process] makes a process of the bytes of an ELF file: its image, and its memory. [execute_process] runs it and serves its system calls. What that is, is written in
 //! `specs/Processes.antt`. [watch_process] shows each step of such a run to a [Watcher],
 //! as `specs/Watching.antt` says. Both tell a [Progress] of the steps, of which no contract speaks.
 
@@ -18,10 +17,12 @@ mod image;
 mod layout;
 mod marks;
 mod process;
+mod process_memory;
 mod progress;
 mod protected;
 mod stack;
 mod watching;
+mod zero_words;
 
 pub use image::{Image, ImageError, fill, image_of, needed_memory};
 pub use layout::{Layout, layout_of};
@@ -29,7 +30,9 @@ pub use marks::{PAGE_BYTES, PageRange, Protection, marks_of};
 pub use process::{
     DECODED_WORDS, LoadedProcess, ProcessEnd, execute_process, load_process, started,
 };
+pub use process_memory::ProcessMemory;
 pub use progress::{InPieces, NoProgress, Progress};
 pub use protected::ProtectedMemory;
 pub use stack::{ProgramHeaders, initial_stack, stack_pointer};
 pub use watching::{Watcher, watch_process};
+pub use zero_words::ZeroWords;

@@ -51,6 +51,25 @@ impl PageRange {
         let start = u64::from(page) * 4096;
         self.start < self.end && self.start < start + 4096 && start < self.end
     }
+
+    /// The first page after `page` that has one of the addresses where `page` has none, or the
+    /// other way round.
+    fn change_after(&self, page: u32) -> u64
+        ensures later { page < result }
+        ensures same { (p : ℕ) → page ≤ p → p < result
+            → touches self.now p ≡ touches self.now page }
+    {
+        let page = u64::from(page);
+        let first = self.start / 4096;
+        let behind = self.end.saturating_sub(1) / 4096 + 1;
+        if page < first {
+            first
+        } else if page < behind {
+            behind
+        } else {
+            u64::MAX
+        }
+    }
 }
 
 /// What a program that has these addresses may do with a page: the most that one of them allows
@@ -67,6 +86,19 @@ fn mark_of(ranges: &[PageRange], page: u32) -> Protection
     mark
 }
 
+/// A page after `page` before which all from `page` on have one mark.
+fn next_change(ranges: &[PageRange], page: u32) -> u64
+    ensures later { page < result }
+    ensures same { (p : ℕ) → page ≤ p → p < result
+        → mark_of ranges.now p ≡ mark_of ranges.now page }
+{
+    let mut next = u64::MAX;
+    for range in ranges {
+        next = next.min(range.change_after(page));
+    }
+    next
+}
+
 /// The marks of so many pages, from address 0 on, for a program that has these addresses.
 ///
 /// # Errors
@@ -80,8 +112,11 @@ pub fn marks_of(
     ensures { IfOk result (λ marks. IsMarkedBy ranges.now pages marks.items) }
 {
     let mut marks = Vec::new(alloc);
-    for page in 0..pages {
-        marks.push(mark_of(ranges, page))?;
+    let mut page = 0;
+    'stretches: while page < pages {
+        let next = next_change(ranges, page).min(u64::from(pages)) as u32;
+        marks.resize(next as usize, mark_of(ranges, page))?;
+        page = next;
     }
     Ok(marks)
 }

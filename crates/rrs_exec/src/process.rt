@@ -1,23 +1,22 @@
 //! An executable that runs as a process of Linux.
 
-ghost use Rattle.std.specs.Prelude.{◌≡◌, ◌-◌, ◌/◌, ◌≤◌, ℕ, Bool, Option, None, Err, map, replicate, string_bytes, IfOk, IfErr, IfSome, OnErr};
+ghost use Rattle.std.specs.Prelude.{◌≡◌, ℕ, Bool, Option, None, Err, map, string_bytes, IfOk, IfErr, IfSome, OnErr};
 ghost use Rattle.rrs_elf.specs.Executables.{IsExecutable};
 ghost use Rattle.rrs_exec.specs.Images.{AreLong, memory_refusal};
 ghost use Rattle.rrs_lib.specs.Machine.{state_of};
 ghost use Rattle.rrs_elf.specs.declared.errors.ElfError.{ElfError};
 ghost use Rattle.rrs_elf.specs.Refusals.{first_refusal, checks};
 ghost use Rattle.rrs_exec.specs.Processes.{started, RunsImage, RunsProcess, IsLoaded};
-ghost use Rattle.rrs_lib.specs.SliceBytes.{slice_bytes, slice_writable};
+ghost use Rattle.rrs_exec.specs.ProcessMemories.{process_bytes, process_writable};
 
-use crate::image::{Image, ImageError, fill_words, image_of};
-use crate::layout::Layout;
+use crate::image::{Image, ImageError, fill, image_of};
+use crate::process_memory::ProcessMemory;
 use crate::progress::{InPieces, Progress};
 use crate::protected::ProtectedMemory;
 use rrs_elf::Executable;
 use rrs_fast::{CachedMemory, Ending, OwnCache, ServedEnd, run_served};
 use rrs_lib::HartState;
 use rrs_lib::instruction_executor::InstructionExecutor;
-use rrs_lib::memories::SliceMemory;
 use rrs_linux::{Heap, Linux};
 use std::alloc::Global;
 use std::io::{Read, Write};
@@ -54,22 +53,8 @@ pub fn started(entry: u32, sp: u32) -> HartState
 pub struct LoadedProcess {
     /// Where it starts, its stack, and the marks of its pages.
     pub image: Image,
-    /// The words of its memory, the first at address `image.layout.base`.
-    pub words: Vec<u32>,
-}
-
-/// The zero words of a process's memory.
-fn zeros(alloc: Global, layout: &Layout) -> Result<Vec<u32>, ImageError>
-    requires { layout.now.base ≤ layout.now.end }
-    ensures zeros { IfOk result (λ words.
-        words.items ≡ replicate ((layout.now.end - layout.now.base) / 4) 0) }
-    ensures short { IfErr result (λ error. error ≡ ImageError.OutOfMemory) }
-{
-    let count = (layout.end - layout.base) / 4;
-    match vec![in alloc; 0; count as usize] {
-        Ok(words) => Ok(words),
-        Err(_) => Err(ImageError::OutOfMemory),
-    }
+    /// Its memory.
+    pub memory: ProcessMemory,
 }
 
 /// Loads a file's bytes as an executable with these arguments, of which the first is its name, in a
@@ -89,7 +74,8 @@ pub fn load_process(
     wanted: u64,
 ) -> Result<LoadedProcess, ImageError>
     ensures loaded { IfOk result (λ process. IsLoaded file.now (map string_bytes arguments.now)
-        wanted process.image process.words.items) }
+        wanted process.image (process_bytes process.memory)
+        (process_writable process.memory)) }
     ensures ceiling { IsExecutable file.now
         → IfSome (memory_refusal file.now wanted) (λ error. result ≡ Err error) }
     ensures refused { (refusal : ElfError) → first_refusal (checks file.now) ≡ Err refusal
@@ -106,10 +92,12 @@ pub fn load_process(
         Err(error) => return Err(ImageError::Elf(error)),
     };
     let image = image_of(alloc, &executable, arguments, wanted)?;
-    let mut words = zeros(alloc, &image.layout)?;
-    let (sp, base) = (image.stack_pointer, image.layout.base);
-    fill_words(&executable, sp, &image.stack, base, &mut words)?;
-    Ok(LoadedProcess { image, words })
+    let mut memory = match ProcessMemory::new(alloc, &image.layout) {
+        Ok(memory) => memory,
+        Err(_) => return Err(ImageError::OutOfMemory),
+    };
+    fill(&executable, image.stack_pointer, &image.stack, &mut memory)?;
+    Ok(LoadedProcess { image, memory })
 }
 
 /// Runs a file's bytes as an executable with these arguments, of which the first is its name, in a
@@ -138,25 +126,27 @@ pub fn execute_process<R: Read, W: Write, E: Write, P: Progress>(
     ensures kept { OnErr result (environment.new ≡ environment.old) }
     ensures refused { (refusal : ElfError) → first_refusal (checks file.now) ≡ Err refusal
         → IfErr result (λ error. error ≡ ImageError.Elf refusal) }
+    ensures long { IsExecutable file.now → memory_refusal file.now wanted ≡ None
+        → AreLong file.now (map string_bytes arguments.now) wanted
+        → result ≡ Err ImageError.LongArguments }
+    ensures otherwise { IsExecutable file.now → memory_refusal file.now wanted ≡ None
+        → (AreLong file.now (map string_bytes arguments.now) wanted → ⊥)
+        → IfErr result (λ error. error ≡ ImageError.OutOfMemory) }
 {
-    let LoadedProcess { image, mut words } = load_process(alloc, file, arguments, wanted)?;
-    let memory = SliceMemory {
-        words: &mut words,
-        base: image.layout.base,
-    };
+    let LoadedProcess { image, memory } = load_process(alloc, file, arguments, wanted)?;
     Ok(run_image(image, memory, limit, environment, progress))
 }
 
 /// Runs a process whose memory is filled.
 fn run_image<R: Read, W: Write, E: Write, P: Progress>(
     image: Image,
-    memory: SliceMemory<'_>,
+    memory: ProcessMemory,
     limit: u64,
     environment: &mut Linux<R, W, E>,
     progress: &mut P,
 ) -> ProcessEnd
     ensures { RunsImage R.remaining W.contents E.contents image
-        (slice_bytes memory.entry) (slice_writable memory.entry) limit
+        (process_bytes memory) (process_writable memory) limit
         environment.old environment.new result.steps result.pc result.ending }
 {
     let Image {

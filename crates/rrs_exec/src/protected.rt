@@ -4,18 +4,18 @@ ghost use Rattle.std.specs.Prelude.{◌≡◌};
 ghost use Rattle.rrs_exec.specs.Protection.{mark_at};
 
 use crate::marks::Protection;
-use rrs_memory::memories::SliceMemory;
+use crate::process_memory::ProcessMemory;
 use rrs_memory::{MemAccessSize, Memory};
 
-/// Words that are lent, of which each page of 4,096 bytes has a mark: whether it is mapped, and
+/// The memory of a process, of which each page of 4,096 bytes has a mark: whether it is mapped, and
 /// whether it is writable.
 ///
 /// Page p has the addresses from 4,096 p on, and its mark has the index p. A page past the last
-/// mark is not mapped. An access that its page allows is one of the words, and another is refused.
+/// mark is not mapped. An access that its page allows is one of the memory, and another is refused.
 #[derive(Drop)]
-pub struct ProtectedMemory<'a> {
-    /// The words.
-    pub memory: SliceMemory<'a>,
+pub struct ProtectedMemory {
+    /// The memory.
+    pub memory: ProcessMemory,
     /// The marks.
     pub marks: Vec<Protection>,
 }
@@ -33,7 +33,7 @@ fn mark_at(marks: &[Protection], address: u32) -> Protection
     }
 }
 
-impl<'a> Memory for ProtectedMemory<'a> {
+impl Memory for ProtectedMemory {
     ghost use Rattle.rrs_exec.specs.Protection.{protected_bytes, protected_writable, protected_layout, protected_reads, ProtectedWrites};
 
     ghost bytes = { protected_bytes };

@@ -1,10 +1,10 @@
 //! Runs of which each step is shown to a watcher.
 
-ghost use Rattle.std.specs.Prelude.{◌≡◌, Bool, Err, map, string_bytes, IfOk, IfErr, IfSome, OnErr};
+ghost use Rattle.std.specs.Prelude.{◌≡◌, Bool, None, Err, map, string_bytes, IfOk, IfErr, IfSome, OnErr};
 ghost use Rattle.rrs_elf.specs.Executables.{IsExecutable};
-ghost use Rattle.rrs_exec.specs.Images.{memory_refusal};
+ghost use Rattle.rrs_exec.specs.Images.{AreLong, memory_refusal};
 ghost use Rattle.rrs_lib.specs.Executor.{state_in, KeepsTheRest};
-ghost use Rattle.rrs_lib.specs.SliceBytes.{slice_bytes, slice_writable};
+ghost use Rattle.rrs_exec.specs.ProcessMemories.{process_bytes, process_writable};
 ghost use Rattle.rrs_trace.specs.declared.retired.Retired.{Retired};
 ghost use Rattle.rrs_fast.specs.Serving.{MakesSome};
 ghost use Rattle.rrs_elf.specs.declared.errors.ElfError.{ElfError};
@@ -13,12 +13,12 @@ ghost use Rattle.rrs_exec.specs.Watching.{ServesAt, Turn, IsWatched, WatchesImag
 
 use crate::image::{Image, ImageError};
 use crate::process::{LoadedProcess, ProcessEnd, load_process, started};
+use crate::process_memory::ProcessMemory;
 use crate::progress::Progress;
 use crate::protected::ProtectedMemory;
 use rrs_fast::{Ending, Environment, ServedEnd};
 use rrs_lib::Memory;
 use rrs_lib::instruction_executor::{InstructionException, InstructionExecutor};
-use rrs_lib::memories::SliceMemory;
 use rrs_linux::{Heap, Linux};
 use rrs_trace::{Retired, step_retired};
 use std::alloc::Global;
@@ -154,14 +154,14 @@ fn run_watched<M: Memory, E: Environment, V: Watcher, P: Progress>(
 /// Runs a process whose memory is filled, and shows each step.
 fn watch_image<R: Read, W: Write, E: Write, V: Watcher, P: Progress>(
     image: Image,
-    memory: SliceMemory<'_>,
+    memory: ProcessMemory,
     limit: u64,
     environment: &mut Linux<R, W, E>,
     watcher: &mut V,
     progress: &mut P,
 ) -> ProcessEnd
     ensures { WatchesImage R.remaining W.contents E.contents V.sees V.wants image
-        (slice_bytes memory.entry) (slice_writable memory.entry) limit
+        (process_bytes memory) (process_writable memory) limit
         environment.old environment.new watcher.old watcher.new
         result.steps result.pc result.ending }
 {
@@ -221,11 +221,13 @@ pub fn watch_process<R: Read, W: Write, E: Write, V: Watcher, P: Progress>(
     ensures unseen { OnErr result (watcher.new ≡ watcher.old) }
     ensures refused { (refusal : ElfError) → first_refusal (checks file.now) ≡ Err refusal
         → IfErr result (λ error. error ≡ ImageError.Elf refusal) }
+    ensures long { IsExecutable file.now → memory_refusal file.now wanted ≡ None
+        → AreLong file.now (map string_bytes arguments.now) wanted
+        → result ≡ Err ImageError.LongArguments }
+    ensures otherwise { IsExecutable file.now → memory_refusal file.now wanted ≡ None
+        → (AreLong file.now (map string_bytes arguments.now) wanted → ⊥)
+        → IfErr result (λ error. error ≡ ImageError.OutOfMemory) }
 {
-    let LoadedProcess { image, mut words } = load_process(alloc, file, arguments, wanted)?;
-    let memory = SliceMemory {
-        words: &mut words,
-        base: image.layout.base,
-    };
+    let LoadedProcess { image, memory } = load_process(alloc, file, arguments, wanted)?;
     Ok(watch_image(image, memory, limit, environment, watcher, progress))
 }

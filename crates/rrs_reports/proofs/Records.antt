@@ -13,7 +13,6 @@ use Rattle.rrs_exec.specs.Processes.{started, heap_of}
 use Rattle.rrs_exec.specs.Watching.{start_in, WatchesProcess}
 use Rattle.rrs_fast.specs.Serving.{Served}
 use Rattle.rrs_exec.specs.Protection.{bytes_under, writable_under}
-use Rattle.rrs_lib.specs.SliceBytes.{bytes_from, lies_from}
 use Rattle.rrs_exec.specs.Watching.{TurnAnswer, Turn, Stepped, Faulted, Called, Turns, NoTurn, OneMore, Shown, ToLimit, ToExit, ToFault}
 use Rattle.rrs_reports.specs.Records.{keeps, wants_all, RunsWithRecords}
 
@@ -68,14 +67,15 @@ pub run_kept : {R W E V : Type 0} (remaining : R → Option (List ℕ))
 run_kept remaining contents errors_of sees wants P grows file arguments wanted limit old new v v' steps pc ending watched more none =
     let serves = Serves remaining contents errors_of in
     let runs = watched.runs in
-    let start = start_in runs.image (bytes_from runs.image.layout.base runs.words) (lies_from runs.image.layout.base runs.words) in
+    let start = start_in runs.image runs.bytes runs.writable in
     let before = record old { heap = heap_of runs.image } in
     let k = shown_kept serves sees wants P grows before new start runs.runs.end v v' ending steps watched.shown none in (
       k.0,
       record {
         runs = record {
           image = runs.image;
-          words = runs.words;
+          bytes = runs.bytes;
+          writable = runs.writable;
           loaded = runs.loaded;
           runs = record {
             end = runs.runs.end;

@@ -1,6 +1,5 @@
 -- The records of a run: what each of its steps retired, in order, and after them that of a fault.
 use Rattle.std.specs.Prelude.{◌≡◌, ℕ, List, [], ◌∷◌, ◌++◌, Bool, true, Option}
-use Rattle.rrs_lib.specs.SliceBytes.{bytes_from, lies_from}
 use Rattle.rrs_trace.specs.declared.retired.Retired.{Retired}
 use Rattle.rrs_fast.specs.declared.serving.Ending.{Ending}
 use Rattle.rrs_linux.specs.declared.Process.{Process}
@@ -27,6 +26,5 @@ pub record RunsWithRecords {R W E : Type 0} (remaining : R → Option (List ℕ)
       file arguments wanted limit old new steps pc ending
   pub shown : Shown (Serves remaining contents errors_of) keeps wants_all
       (record old { heap = heap_of runs.image })
-      (start_in runs.image (bytes_from runs.image.layout.base runs.words)
-      (lies_from runs.image.layout.base runs.words)) []
+      (start_in runs.image runs.bytes runs.writable) []
       ending steps new runs.runs.end records

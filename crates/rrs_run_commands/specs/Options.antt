@@ -68,11 +68,11 @@ has_setting _ _ = false
 
 -- ---- what they are where no word says it
 
--- A board has 128 MiB, and a process 16 MiB, or more where its program needs more.
+-- A board has 128 MiB, and a process 256 MiB, or more where its program needs more.
 abbrev pub usual_memory : Task → ℕ
 usual_memory Board = 2 ^ 27
 usual_memory DebugBoard = 2 ^ 27
-usual_memory _ = 2 ^ 24
+usual_memory _ = 2 ^ 28
 
 -- RAM of a board is from 0x80000000 up to the last address, and a process has all addresses.
 abbrev pub most_memory : Task → ℕ

@@ -18,7 +18,7 @@ use rrs_reports::{SHOWN_BYTES, ShownName};
 use std::io::{Read, Write};
 use std::rt::Files;
 
-/// How many bytes of memory a program has: as many as are asked for, and where none are, 16 MiB or
+/// How many bytes of memory a program has: as many as are asked for, and where none are, 256 MiB or
 /// as many as it needs, but no more than 1 GiB.
 pub fn memory_for(file: &[u8], asked: Option<u64>) -> u64
     ensures asked { IfSome asked (λ bytes. result ≡ bytes) }

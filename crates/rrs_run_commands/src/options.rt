@@ -188,14 +188,14 @@ pub fn setting_of(task: Task, name: &str) -> Option<Setting>
     }
 }
 
-/// How many bytes of memory there are where no word says it: 128 MiB of a board, and 16 MiB of a
+/// How many bytes of memory there are where no word says it: 128 MiB of a board, and 256 MiB of a
 /// process, or more where its program needs more, up to [MOST_UNASKED].
 pub fn usual_memory(task: Task) -> u64
     ensures { result ≡ usual_memory task }
 {
     match task {
         Task::Board | Task::DebugBoard => 1 << 27,
-        _ => 1 << 24,
+        _ => 1 << 28,
     }
 }
 

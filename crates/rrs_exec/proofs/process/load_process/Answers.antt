@@ -1,16 +1,17 @@
--- The segments and the stack are in the words.
-use Rattle.std.proofs.Common.{◌≡◌, ℕ, ◌+◌, ◌*◌, ◌<◌, ◌≤◌, List, length, refl, replicate, map, ◌-◌, ◌/◌, None, Err, inl, inr, subst, sym, ap, ◌∙◌, arith, rules}
-use Rattle.std.proofs.lemmas.List.{length-replicate, with_items_is}
+-- The segments and the stack are in the memory.
+use Rattle.std.proofs.Common.{◌≡◌, ℕ, ◌+◌, ◌<◌, ◌≤◌, List, length, refl, map, true, ◌-◌, None, Err, inl, inr, subst, ap, ◌∙◌, arith, rules}
 use Rattle.std.specs.String.{string_bytes}
-use Rattle.rrs_lib.specs.SliceBytes.{bytes_from, lies_from}
+use Rattle.std.proofs.lemmas.Bool.Decides.{nat_tests}
+use Rattle.rrs_memory.specs.Bytes.{ByteMap}
 use Rattle.rrs_elf.specs.Executables.{IsExecutable, PT_LOAD}
 use Rattle.rrs_elf.specs.Headers.{e_entry, p_memsz, p_type, p_vaddr}
 use Rattle.rrs_elf.specs.Loading.{loaded_size}
 use Rattle.rrs_exec.specs.InitialStack.{stack_bytes}
 use Rattle.rrs_elf.proofs.Accepted.{accepted_to}
+use Rattle.rrs_exec.specs.declared.image.Image.{Image}
 use Rattle.rrs_exec.specs.declared.image.ImageError.{ImageError}
+use Rattle.rrs_exec.specs.ProcessMemories.{lies_between, process_writable}
 use Rattle.rrs_exec.specs.Images.{IsFillable, IsImage, Filled, memory_refusal}
-use Rattle.rrs_exec.proofs.Lying.{lies}
 use Rattle.rrs_exec.proofs.StackWords.{block_length}
 use Rattle.rrs_exec.proofs.process.load_process.Goals as goal
 
@@ -18,19 +19,47 @@ use Rattle.rrs_exec.proofs.process.load_process.Goals as goal
 loaded-whole : (file : List ℕ) (i : ℕ) → p_type file i ≡ PT_LOAD → loaded_size file i ≡ p_memsz file i
 loaded-whole file i loaded = rw loaded refl
 
--- the same file, stack and words, by other names
-renamed : (file file' : List ℕ) (sp base : ℕ) (stack stack' old old' new new' : List ℕ)
-    → file ≡ file' → stack ≡ stack' → old ≡ old' → new' ≡ new
-    → Filled file sp stack (bytes_from base old) (bytes_from base new)
-    → Filled file' sp stack' (bytes_from base old') (bytes_from base new')
-renamed file file' sp base stack stack' old old' new new' f s o n filled =
-    subst (λ file. Filled file sp stack' (bytes_from base old') (bytes_from base new')) f
-    (subst (λ stack. Filled file sp stack (bytes_from base old') (bytes_from base new')) s
-    (subst (λ old. Filled file sp stack (bytes_from base old) (bytes_from base new')) o
-    (subst (λ new. Filled file sp stack (bytes_from base old) (bytes_from base new)) (sym n) filled)))
+-- the same file, stack and bytes before, by other names
+renamed : (file file' : List ℕ) (sp : ℕ) (stack stack' : List ℕ) (old old' new : ByteMap)
+    → file ≡ file' → stack ≡ stack' → old ≡ old' → Filled file sp stack old new → Filled file' sp stack' old' new
+renamed file file' sp stack stack' old old' new f s o filled =
+    subst (λ file. Filled file sp stack' old' new) f
+    (subst (λ stack. Filled file sp stack old' new) s
+    (subst (λ old. Filled file sp stack old new) o filled))
 
-pub fill_words-requires : goal.fill_words-requires
-fill_words-requires c =
+-- an address of the memory is writable
+lies : (base end a : ℕ) → base ≤ a → a < end → lies_between base end a ≡ true
+lies base end a from below = grind (arith, nat_tests)
+
+-- a program that can be entered has an address
+entered : (file : List ℕ) (arguments : List (List ℕ)) (wanted : ℕ) (image : Image) → IsExecutable file → IsImage file arguments wanted image
+    → image.layout.base ≤ image.layout.stack_start
+entered file arguments wanted image here im =
+    let at = here.entry_inside in
+    let sized : loaded_size file at.0 ≡ p_memsz file at.0 = loaded-whole file at.0 at.1.loaded.of_type in
+    let inside = im.program at.0 (e_entry file - p_vaddr file at.0) at.1.loaded.numbered (omega (arith, sized, at.1.from_start, at.1.before_end)) in
+    omega (arith, inside.0, inside.1, im.laid_out.first, im.laid_out.behind, im.laid_out.heap, im.laid_out.gap)
+
+pub new-requires-clause-ordered : goal.new-requires-clause-ordered
+new-requires-clause-ordered c =
+    let here : IsExecutable c.args.file.now = search rules in
+    entered c.args.file.now (map string_bytes c.args.arguments.now) c.args.wanted c.in_ok-image.image here
+    (subst (λ file. IsImage file (map string_bytes c.args.arguments.now) c.args.wanted c.in_ok-image.image) c.in-Ok.ensures.same c.in_ok-image.ensures.image)
+
+pub new-requires-clause-stack : goal.new-requires-clause-stack
+new-requires-clause-stack c = omega (arith, c.in_ok-image.ensures.image.laid_out.stack.0)
+
+pub new-requires-clause-base : goal.new-requires-clause-base
+new-requires-clause-base c = omega (arith, c.in_ok-image.ensures.image.laid_out.first_page.0)
+
+pub new-requires-clause-split : goal.new-requires-clause-split
+new-requires-clause-split c = omega (arith, c.in_ok-image.ensures.image.laid_out.stack_page)
+
+pub new-requires-clause-end : goal.new-requires-clause-end
+new-requires-clause-end c = omega (arith, c.in_ok-image.ensures.image.laid_out.end_page)
+
+pub fill-requires : goal.fill-requires
+fill-requires c =
     let im = c.in_ok-image.ensures.image in
     λ i j numbered within.
     omega (arith, (im.program i j numbered within).1, im.laid_out.behind, im.laid_out.heap, im.laid_out.gap, im.on_stack)
@@ -38,20 +67,13 @@ fill_words-requires c =
 pub returns-clause-loaded : goal.returns-clause-loaded
 returns-clause-loaded c =
     let image = c.in_ok-image.image in
-    let layout = image.layout in
     let im = c.in_ok-image.ensures.image in
     let same = c.in-Ok.ensures.same in
-    let old = c.deref_mut.result.now in
-    let new = c.fill_words.new.words in
-    let zeros : old ≡ replicate ((layout.end - layout.base) / 4) 0 = c.deref_mut.ensures.value ∙ c.in_ok-words.ensures.zeros in
-    let kept : length new ≡ length old = c.in_ok-fill_words.ensures.length_kept in
-    let many : length new ≡ (layout.end - layout.base) / 4 = kept ∙ ap length zeros ∙ length-replicate _ _ in
-    let is_new = with_items_is c.in_ok-words.words new (omega (arith, kept, c.deref_mut.ensures.len)) in
     record {
       executable = search rules;
       is_image = subst (λ file. IsImage file (map string_bytes c.args.arguments.now) c.args.wanted image) same im;
-      long = omega (arith, ap length is_new, many, im.laid_out.ordered, im.laid_out.first_page.0, im.laid_out.end_page);
-      filled = renamed _ _ _ _ _ _ _ _ new _ same c.deref.ensures.value zeros is_new c.in_ok-fill_words.ensures.filled;
+      long = c.fill.ensures.writable_kept ∙ c.in-Ok-new.ensures.writable;
+      filled = renamed _ _ _ _ _ _ _ _ same c.deref.ensures.value c.in-Ok-new.ensures.zeros c.in_ok-fill.ensures.filled;
     }
 
 -- a file that is no executable is refused for what it is
@@ -63,13 +85,13 @@ returns-in_err-image-clause-refused c = λ refusal is.
     let executable : IsExecutable c.args.file.now = search rules in
     absurd (cc (is, accepted_to c.args.file.now executable))
 
-pub returns-in_err-words-clause-refused : goal.returns-in_err-words-clause-refused
-returns-in_err-words-clause-refused c = λ refusal is.
+pub returns-in-Err-new-clause-refused : goal.returns-in-Err-new-clause-refused
+returns-in-Err-new-clause-refused c = λ refusal is.
     let executable : IsExecutable c.args.file.now = search rules in
     absurd (cc (is, accepted_to c.args.file.now executable))
 
-pub returns-in_err-fill_words-clause-refused : goal.returns-in_err-fill_words-clause-refused
-returns-in_err-fill_words-clause-refused c = λ refusal is.
+pub returns-in_err-fill-clause-refused : goal.returns-in_err-fill-clause-refused
+returns-in_err-fill-clause-refused c = λ refusal is.
     let executable : IsExecutable c.args.file.now = search rules in
     absurd (cc (is, accepted_to c.args.file.now executable))
 
@@ -85,12 +107,12 @@ returns-in_err-image-clause-long c = λ executable none long.
     let is : c.in_err-image.field-0.0 ≡ ImageError.LongArguments = cc refused in
     answer ∙ ap Err is
 
-pub returns-in_err-words-clause-long : goal.returns-in_err-words-clause-long
-returns-in_err-words-clause-long c = λ executable none long.
+pub returns-in-Err-new-clause-long : goal.returns-in-Err-new-clause-long
+returns-in-Err-new-clause-long c = λ executable none long.
     absurd (cc (c.in_ok-image.ensures.long (rw c.in-Ok.ensures.same none) (rw c.in-Ok.ensures.same long)))
 
-pub returns-in_err-fill_words-clause-long : goal.returns-in_err-fill_words-clause-long
-returns-in_err-fill_words-clause-long c = λ executable none long.
+pub returns-in_err-fill-clause-long : goal.returns-in_err-fill-clause-long
+returns-in_err-fill-clause-long c = λ executable none long.
     absurd (cc (c.in_ok-image.ensures.long (rw c.in-Ok.ensures.same none) (rw c.in-Ok.ensures.same long)))
 
 -- Another error is that memory is missing.
@@ -104,32 +126,26 @@ returns-in_err-image-clause-otherwise c = λ executable none fine.
     ] in
     rw answer is
 
-pub returns-in_err-fill_words-clause-otherwise : goal.returns-in_err-fill_words-clause-otherwise
-returns-in_err-fill_words-clause-otherwise c = λ executable none fine.
+pub returns-in_err-fill-clause-otherwise : goal.returns-in_err-fill-clause-otherwise
+returns-in_err-fill-clause-otherwise c = λ executable none fine.
     let image = c.in_ok-image.image in
     let layout = image.layout in
     let im = c.in_ok-image.ensures.image in
-    let old = c.deref_mut.result.now in
-    let zeros : old ≡ replicate ((layout.end - layout.base) / 4) 0 = c.deref_mut.ensures.value ∙ c.in_ok-words.ensures.zeros in
-    let many : length old ≡ (layout.end - layout.base) / 4 = ap length zeros ∙ length-replicate _ _ in
-    let reach : layout.base + 4 * length old ≡ layout.end = omega (arith, many, im.laid_out.ordered, im.laid_out.first_page.0, im.laid_out.end_page) in
     let file = c.in-Ok.executable.file.now in
-    let here : IsExecutable file = rw c.in-Ok.ensures.same executable in
-    let at = here.entry_inside in
-    let sized : loaded_size file at.0 ≡ p_memsz file at.0 = loaded-whole file at.0 at.1.loaded.of_type in
-    let inside = im.program at.0 (e_entry file - p_vaddr file at.0) at.1.loaded.numbered (omega (arith, sized, at.1.from_start, at.1.before_end)) in
-    let low : layout.base ≤ image.stack_pointer = omega (arith, inside.0, inside.1, im.laid_out.first, im.laid_out.behind, im.laid_out.heap, im.laid_out.gap, im.on_stack) in
+    let low : layout.base ≤ layout.stack_start = entered file (map string_bytes c.args.arguments.now) c.args.wanted image (rw c.in-Ok.ensures.same executable) im in
     let size : length c.deref.result.now ≡ stack_bytes (map string_bytes c.args.arguments.now) =
     ap length (c.deref.ensures.value ∙ im.stack_is) ∙ block_length image.stack_pointer (map string_bytes c.args.arguments.now) _ in
     let fits = im.fits in
     let top = im.laid_out.top in
-    let answer : c.from_residual-in_err-fill_words.result ≡ Err c.in_err-fill_words.field-0.0 = grind arith in
-    let there : IsFillable file image.stack_pointer (length c.deref.result.now) (lies_from layout.base old) = record {
+    let writable = c.in-Ok-new.ensures.writable in
+    let answer : c.from_residual-in_err-fill.result ≡ Err c.in_err-fill.field-0.0 = grind arith in
+    let there : IsFillable file image.stack_pointer (length c.deref.result.now) (process_writable c.in-Ok-new.memory) = record {
       segments = λ i j numbered within.
           let program = im.program i j numbered within in
           let under : p_vaddr file i + j < layout.end = omega (arith, program.1, im.laid_out.behind, im.laid_out.heap, im.laid_out.gap, im.laid_out.stack.0) in
-          lies layout.base _ old im.laid_out.first_page.0 (omega (arith, program.0, im.laid_out.first)) (omega (arith, under, reach)) (omega (arith, under, top));
-      stack = λ k there. lies layout.base _ old im.laid_out.first_page.0 (omega (arith, low)) (omega (arith, there, size, fits, reach)) (omega (arith, there, size, fits, top));
+          ap (λ w. w (p_vaddr file i + j)) writable ∙ lies layout.base layout.end _ (omega (arith, program.0, im.laid_out.first)) under;
+      stack = λ k there.
+          ap (λ w. w (image.stack_pointer + k)) writable ∙ lies layout.base layout.end _ (omega (arith, low, im.on_stack)) (omega (arith, there, size, fits));
       ends = omega (arith, size, fits, top);
     } in
-    rw answer (c.in_err-fill_words.ensures.fillable there)
+    rw answer (c.in_err-fill.ensures.fillable there)

@@ -2,7 +2,7 @@
 use Rattle.std.proofs.Common.{refl, subst}
 use Rattle.rrs_lib.specs.Machine.{State, state_of}
 use Rattle.rrs_lib.specs.Executor.{state_in}
-use Rattle.rrs_lib.specs.SliceBytes.{slice_bytes, slice_writable}
+use Rattle.rrs_exec.specs.ProcessMemories.{process_bytes, process_writable}
 use Rattle.rrs_exec.specs.Protection.{bytes_under, writable_under, protected_bytes, protected_writable}
 use Rattle.rrs_exec.specs.declared.protected.ProtectedMemory.{ProtectedMemory}
 use Rattle.rrs_fast.specs.Serving.{Served}
@@ -15,8 +15,8 @@ pub returns : goal.returns
 returns g c =
     let image = c.args.image in
     let marks = image.marks.items in
-    let bytes = bytes_under marks (slice_bytes c.args.memory) in
-    let writable = writable_under marks (slice_writable c.args.memory) in
+    let bytes = bytes_under marks (process_bytes c.args.memory) in
+    let writable = writable_under marks (process_writable c.args.memory) in
     let served = c.run_served-steps.ensures.served in
     let end = c.run_served-steps.result in
     let last = state_in protected_bytes protected_writable c.run_served-steps.new.executor in

@@ -2,7 +2,7 @@
 use Rattle.std.proofs.Common.{subst, refl}
 use Rattle.rrs_lib.specs.Machine.{State}
 use Rattle.rrs_lib.specs.Executor.{state_in}
-use Rattle.rrs_lib.specs.SliceBytes.{slice_bytes, slice_writable}
+use Rattle.rrs_exec.specs.ProcessMemories.{process_bytes, process_writable}
 use Rattle.rrs_exec.specs.Protection.{protected_bytes, protected_writable}
 use Rattle.rrs_fast.specs.Serving.{Served}
 use Rattle.rrs_linux.specs.declared.Heap.{Heap}
@@ -14,8 +14,8 @@ pub returns : goal.returns
 returns g c =
     let image = c.args.image in
     let serves = Serves g.R.Read.remaining g.W.Write.contents g.E.Write.contents in
-    let bytes = slice_bytes c.args.memory in
-    let writable = slice_writable c.args.memory in
+    let bytes = process_bytes c.args.memory in
+    let writable = process_writable c.args.memory in
     let made = c.run_watched-steps.ensures.watched in
     let watched = made.these in
     let end = c.run_watched-steps.result in

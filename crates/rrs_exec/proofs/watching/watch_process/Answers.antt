@@ -1,27 +1,39 @@
--- The image is run and watched from the words of the process that is loaded.
-use Rattle.std.proofs.Common.{List, ℕ, subst}
-use Rattle.rrs_lib.specs.SliceBytes.{bytes_from, lies_from}
-use Rattle.rrs_exec.specs.Watching.{WatchesImage}
+-- The image is run and watched in the memory of the process that is loaded.
+use Rattle.std.proofs.Common.{◌≡◌, Err, ap, ◌∙◌, arith}
+use Rattle.rrs_exec.specs.declared.image.ImageError.{ImageError}
+use Rattle.rrs_exec.specs.ProcessMemories.{process_bytes, process_writable}
 use Rattle.rrs_exec.proofs.watching.watch_process.Goals as goal
 
 pub returns-clause-watched : goal.returns-clause-watched
 returns-clause-watched g c =
-    let image = c.in_ok-image.field-0.image in
-    let Watches : List ℕ → Type 0 = λ words.
-    WatchesImage g.R.Read.remaining g.W.Write.contents g.E.Write.contents g.V.Watcher.sees g.V.Watcher.wants image
-    (bytes_from image.layout.base words) (lies_from image.layout.base words) c.args.limit
-    c.args.environment.now c.watch_image.new.environment c.args.watcher.now c.watch_image.new.watcher
-    c.watch_image.result.steps c.watch_image.result.pc c.watch_image.result.ending in
-    let watched = subst Watches c.deref_mut.ensures.value c.watch_image.ensures in
+    let watched = c.watch_image.ensures in
     record {
       most = watched.most;
       within = watched.within;
       all = watched.all;
       runs = record {
-        image = image;
-        words = c.in_ok-image.field-0.words.items;
+        image = c.in_ok-image.field-0.image;
+        bytes = process_bytes c.in_ok-image.field-0.memory;
+        writable = process_writable c.in_ok-image.field-0.memory;
         loaded = c.in_ok-image.ensures.loaded;
         runs = watched.runs;
       };
       shown = watched.shown;
     }
+
+-- what loading refuses is refused so
+pub returns-clause-long : goal.returns-clause-long
+returns-clause-long g c = λ executable none long. absurd (cc (c.in_ok-image.ensures.long executable none long))
+
+pub returns-in_err-image-clause-long : goal.returns-in_err-image-clause-long
+returns-in_err-image-clause-long g c =
+    let answer : c.from_residual.result ≡ Err c.in_err-image.field-0.0 = grind arith in
+    λ executable none long.
+    let is : c.in_err-image.field-0.0 ≡ ImageError.LongArguments = cc (c.in_err-image.ensures.long executable none long) in
+    answer ∙ ap Err is
+
+pub returns-in_err-image-clause-otherwise : goal.returns-in_err-image-clause-otherwise
+returns-in_err-image-clause-otherwise g c = λ executable none fine.
+    let answer : c.from_residual.result ≡ Err c.in_err-image.field-0.0 = grind arith in
+    let is : c.in_err-image.field-0.0 ≡ ImageError.OutOfMemory = c.in_err-image.ensures.otherwise executable none fine in
+    rw answer is

@@ -1,7 +1,7 @@
--- An access whose page is mapped is one of the words.
+-- An access whose page is mapped is one of the memory.
 use Rattle.std.proofs.Common.{◌≡◌, true, ap, sym, ◌∙◌}
 use Rattle.rrs_memory.specs.Bytes.{width}
-use Rattle.rrs_memory.specs.SliceBytes.{slice_bytes, slice_writable, slice_layout}
+use Rattle.rrs_exec.specs.ProcessMemories.{process_bytes, process_writable, process_layout}
 use Rattle.rrs_exec.specs.Protection.{mark_at, is_mapped, bytes_under, writable_under}
 use Rattle.rrs_exec.proofs.Pages.{mapped_either, value_mapped, lawful_under, ends_under}
 use Rattle.rrs_exec.proofs.protected.ProtectedMemoryMemory.read_mem.Goals as goal
@@ -17,12 +17,12 @@ returns-in-ReadOnly c =
     let mapped : is_mapped (mark_at marks a) ≡ true = ap is_mapped (sym at) ∙ mapped_either c.mark_at.result c.in-ReadOnly.is in
     record {
       laws = record {
-        value = laws.value ∙ sym (value_mapped marks a c.args.size c.requires (slice_bytes old.memory) mapped);
-        bytes_kept = ap (λ m. bytes_under marks (slice_bytes m)) same;
-        writable_kept = ap (λ m. writable_under marks (slice_writable m)) same;
-        layout_kept = ap slice_layout same;
-        lawful = lawful_under marks (slice_bytes old.memory) (slice_writable old.memory) a (width c.args.size) laws.lawful;
-        ends = ends_under marks (slice_bytes old.memory) (slice_writable old.memory) laws.ends;
+        value = laws.value ∙ sym (value_mapped marks a c.args.size c.requires (process_bytes old.memory) mapped);
+        bytes_kept = ap (λ m. bytes_under marks (process_bytes m)) same;
+        writable_kept = ap (λ m. writable_under marks (process_writable m)) same;
+        layout_kept = ap process_layout same;
+        lawful = lawful_under marks (process_bytes old.memory) (process_writable old.memory) a (width c.args.size) laws.lawful;
+        ends = ends_under marks (process_bytes old.memory) (process_writable old.memory) laws.ends;
       };
       did = ap (λ m. record old { memory = m }) same;
     }
