@@ -67,8 +67,8 @@ SITES = (
     ),
     (
         "rrs_gdb/src/queries.rt",
-        "if room > 1 << 32 {",
-        "if room > 1 << 32 || room > usize::MAX as u64 {",
+        "if is_too_many(room) {",
+        "if is_too_many(room) || room > usize::MAX as u64 {",
         "So much room a `usize` of 32 bits can't count: there is no memory for it.",
     ),
     (

@@ -1,5 +1,5 @@
 -- What an answer leaves and means, by the subject of the packet.
-use Rattle.std.proofs.Common.{◌≡◌, ◌≢◌, ◌⊎◌, ℕ, ◌≤◌, List, [], ◌++◌, Result, Ok, Err, OnOk, IfOk, refl, append-nil, drop, length, slice_index, sym, subst, ap, ◌∙◌, inl, inr, arith}
+use Rattle.std.proofs.Common.{◌≡◌, ◌≢◌, ◌⊎◌, ℕ, suc, is_some, ◌≤◌, ◌==◌, if◌then◌else◌, Bool, true, false, List, [], ◌∷◌, ◌++◌, Result, Ok, Err, OnOk, IfOk, refl, append-nil, append_assoc, drop, length, slice_index, sym, subst, ap, ◌∙◌, inl, inr, arith}
 use Rattle.std.specs.Prelude.{codes}
 use Rattle.std.proofs.lemmas.List.{append_cancel_left}
 use Rattle.hex.specs.Hex.{decode_of}
@@ -14,12 +14,13 @@ use Rattle.rrs_gdb.specs.declared.session.Next.TheVariants.{Reply}
 use Rattle.rrs_gdb.specs.Breaks.{WithBreak, WithoutBreak}
 use Rattle.rrs_gdb.proofs.ChangeLemmas.{error_behind, error_of}
 use Rattle.rrs_gdb.proofs.EntryLemmas.{no_both}
+use Rattle.rrs_words.specs.CsrNumbers.{csr_at}
 use Rattle.rrs_gdb.specs.Packets.{IsPlace, before, behind, address_in, length_in}
 use Rattle.rrs_gdb.specs.Sessions.{letter, BreaksNone, ChangesMemory, ChangesNone, IsBreak, IsError, RunsNone, SetsBytes, SetsMemory, ShowsMemory}
 use Rattle.rrs_board_gdb.specs.declared.session.BoardSession.{BoardSession}
 use Rattle.rrs_board_gdb.specs.declared.session.Subject.TheVariants.{Inspected, Session}
-use Rattle.rrs_board_gdb.specs.Shown.{SameBoard, SameButRam, ram_bytes, ram_writable, ram_state}
-use Rattle.rrs_board_gdb.specs.Sessions.{EndsBy, GoesBy, IsGoing, RemovesStop, SetsRegister, SetsStop, ShowsRegister}
+use Rattle.rrs_board_gdb.specs.Shown.{csr_line, csr_lines, SameBoard, SameButRam, byte_at, is_writable_at, ram_state}
+use Rattle.rrs_board_gdb.specs.Sessions.{EndsBy, GoesBy, IsGoing, IsTaken, Tells, RemovesStop, SetsRegister, SetsStop, ShowsRegister}
 use Rattle.rrs_board_gdb.specs.Answers.{Asks, InspectsNone, HasSubject, Inspects, Leaves, Means}
 
 -- ---- the same board
@@ -30,9 +31,9 @@ same_board b c same = record {
     hart_kept = ap (λ (x : Board). x.hart) same;
     csrs_kept = ap (λ (x : Board). x.csrs) same;
     devices_kept = ap (λ (x : Board). x.memory.devices) same;
-    writable_kept = ap ram_writable same;
+    writable_kept = ap is_writable_at same;
   };
-  bytes_kept = ap ram_bytes same;
+  bytes_kept = ap byte_at same;
 }
 
 -- ---- letters
@@ -485,3 +486,102 @@ pub on_means : {A F Q : Type 0} (r : Result A F) (payload : List ℕ) (s t : Boa
     → OnOk r (Means payload s t old new) → (Means payload s t old new → Q) → OnOk r Q
 on_means (Ok x) payload s t old new means part = part means
 on_means (Err f) payload s t old new means part = tt
+
+-- ---- what is told of the session
+
+begins_by : (is_end : Bool) (c b : ℕ) (cs bs : List ℕ) → (if is_end then [] else c ∷ cs) ≡ b ∷ bs → c ≡ b
+begins_by true c b cs bs is = absurd (grind (arith, is))
+begins_by false c b cs bs is = ap (λ (xs : List ℕ). slice_index xs 0) is
+
+begins_word : (payload : List ℕ) (b : ℕ) (bs : List ℕ) → b ≢ 58 → before 58 payload ≡ b ∷ bs → letter payload ≡ b
+begins_word [] b bs other is = absurd (grind (arith, is))
+begins_word (c ∷ cs) b bs other is = begins_by (c == 58) c b (before 58 cs) bs is
+
+first_is : (payload whole : List ℕ) (n : ℕ) → payload ≡ whole → slice_index whole 0 ≡ n → letter payload ≡ n
+first_is payload whole n is at = ap (λ (xs : List ℕ). slice_index xs 0) is ∙ at
+
+none_taken : (payload : List ℕ) → letter payload ≢ 118 → letter payload ≢ 72
+    → letter payload ≢ 84 → letter payload ≢ 81 → letter payload ≢ 68 → ¬ IsTaken payload
+none_taken payload no_v no_H no_T no_Q no_D (inl is) = no_H is
+none_taken payload no_v no_H no_T no_Q no_D (inr (inl is)) = no_T is
+none_taken payload no_v no_H no_T no_Q no_D (inr (inr (inl is))) = no_Q (first_is payload _ 81 is refl)
+none_taken payload no_v no_H no_T no_Q no_D (inr (inr (inr (inl is)))) = no_D is
+none_taken payload no_v no_H no_T no_Q no_D (inr (inr (inr (inr (rest, is))))) = no_v (first_is payload _ 118 is refl)
+
+-- none of the letters of such packets
+pub tells_none : (payload old new : List ℕ) → letter payload ≢ 113 → letter payload ≢ 118 → letter payload ≢ 72
+    → letter payload ≢ 84 → letter payload ≢ 81 → letter payload ≢ 68 → Tells payload old new
+tells_none payload old new no_q no_v no_H no_T no_Q no_D = record {
+  thread = λ is. absurd (no_q (begins_word payload 113 _ (omega arith) is));
+  threads = λ is. absurd (no_q (begins_word payload 113 _ (omega arith) is));
+  no_more = λ is. absurd (no_q (begins_word payload 113 _ (omega arith) is));
+  attached = λ is. absurd (no_q (begins_word payload 113 _ (omega arith) is));
+  offers = λ is. absurd (no_v (first_is payload _ 118 is refl));
+  takes = λ is. absurd (none_taken payload no_v no_H no_T no_Q no_D is);
+}
+
+pub tells_run : {F : Type 0} (r : Result Next F) (payload old new : List ℕ) → IsGoing payload → OnOk r (Tells payload old new)
+tells_run (Ok x) payload old new going = tells_none payload old new
+    (λ is. not_going payload 113 is (omega arith) (omega arith) (omega arith) (omega arith) going)
+    (λ is. not_going payload 118 is (omega arith) (omega arith) (omega arith) (omega arith) going)
+    (λ is. not_going payload 72 is (omega arith) (omega arith) (omega arith) (omega arith) going)
+    (λ is. not_going payload 84 is (omega arith) (omega arith) (omega arith) (omega arith) going)
+    (λ is. not_going payload 81 is (omega arith) (omega arith) (omega arith) (omega arith) going)
+    (λ is. not_going payload 68 is (omega arith) (omega arith) (omega arith) (omega arith) going)
+tells_run (Err f) payload old new going = tt
+
+pub tells_plain : {F : Type 0} (r : Result Unit F) (payload answer old new : List ℕ) → letter payload ≢ 113
+    → (payload ≡ codes "vCont?" → answer ≡ codes "vCont;c;C;s;S") → (IsTaken payload → answer ≡ codes "OK")
+    → OnOk r (new ≡ old ++ answer) → OnOk r (Tells payload old new)
+tells_plain (Ok x) payload answer old new no_q offers takes told = record {
+  thread = λ is. absurd (no_q (begins_word payload 113 _ (omega arith) is));
+  threads = λ is. absurd (no_q (begins_word payload 113 _ (omega arith) is));
+  no_more = λ is. absurd (no_q (begins_word payload 113 _ (omega arith) is));
+  attached = λ is. absurd (no_q (begins_word payload 113 _ (omega arith) is));
+  offers = λ is. told ∙ ap (λ (xs : List ℕ). old ++ xs) (offers is);
+  takes = λ is. told ∙ ap (λ (xs : List ℕ). old ++ xs) (takes is);
+}
+tells_plain (Err f) payload answer old new no_q offers takes told = tt
+
+-- ---- a text in five pieces
+
+pub five_pieces : {F : Type 0} (r : Result Unit F) (t a t1 b t2 c t3 d t4 e t5 b' d' : List ℕ)
+    → t1 ≡ t ++ a → t2 ≡ t1 ++ b → b ≡ b' → t3 ≡ t2 ++ c → t4 ≡ t3 ++ d → d ≡ d' → OnOk r (t5 ≡ t4 ++ e)
+    → OnOk r (t5 ≡ t ++ (a ++ b' ++ c ++ d' ++ e))
+five_pieces (Ok x) t a t1 b t2 c t3 d t4 e t5 b' d' first second is_b third fourth is_d last =
+    last ∙ ap (λ (xs : List ℕ). xs ++ e)
+    (fourth ∙ ap (λ (xs : List ℕ). xs ++ d) (third ∙ ap (λ (xs : List ℕ). xs ++ c)
+    (second ∙ ap (λ (xs : List ℕ). xs ++ b) first)))
+    ∙ rw (is_b, is_d) (ap (λ (xs : List ℕ). xs ++ c ++ d' ++ e) (append_assoc t a b')
+    ∙ ap (λ (xs : List ℕ). xs ++ d' ++ e) (append_assoc t (a ++ b') c)
+    ∙ ap (λ (xs : List ℕ). xs ++ e) (append_assoc t (a ++ b' ++ c) d') ∙ append_assoc t (a ++ b' ++ c ++ d') e)
+five_pieces (Err f) t a t1 b t2 c t3 d t4 e t5 b' d' first second is_b third fourth is_d last = tt
+
+-- ---- the lines of CSRs
+
+pub no_lines : (xs : List ℕ) → xs ≡ xs ++ csr_lines 0
+unfolding csr_lines
+no_lines xs = sym (append-nil xs)
+
+pub one_line : (xs text : List ℕ) (n : ℕ) → is_some (csr_at n) ≡ true → text ≡ (xs ++ csr_lines n) ++ csr_line n
+    → text ≡ xs ++ csr_lines (suc n)
+unfolding csr_lines
+one_line xs text n is same = same ∙ append_assoc xs (csr_lines n) (csr_line n) ∙ rw is refl
+
+pub other_line : (xs text : List ℕ) (n : ℕ) → is_some (csr_at n) ≡ false → text ≡ xs ++ csr_lines n
+    → text ≡ xs ++ csr_lines (suc n)
+unfolding csr_lines
+other_line xs text n is same = same ∙ rw is (ap (λ (ys : List ℕ). xs ++ ys) (sym (append-nil (csr_lines n))))
+
+-- a text of which only the end is said
+pub ends_so : {F : Type 0} (r : Result Unit F) (t a t1 b t2 c t3 d t4 lines t5 e t6 : List ℕ)
+    → t1 ≡ t ++ a → t2 ≡ t1 ++ b → t3 ≡ t2 ++ c → t4 ≡ t3 ++ d → t5 ≡ t4 ++ lines → OnOk r (t6 ≡ t5 ++ e)
+    → OnOk r ((first : List ℕ) × (t6 ≡ t ++ (first ++ lines ++ e)))
+ends_so (Ok x) t a t1 b t2 c t3 d t4 lines t5 e t6 one two three four five six = (
+  a ++ b ++ c ++ d,
+  six ∙ ap (λ (xs : List ℕ). xs ++ e) (five ∙ ap (λ (xs : List ℕ). xs ++ lines) (four
+      ∙ ap (λ (xs : List ℕ). xs ++ d) (three ∙ ap (λ (xs : List ℕ). xs ++ c) (two ∙ ap (λ (xs : List ℕ). xs ++ b) one
+      ∙ append_assoc t a b) ∙ append_assoc t (a ++ b) c) ∙ append_assoc t (a ++ b ++ c) d)
+      ∙ append_assoc t (a ++ b ++ c ++ d) lines) ∙ append_assoc t (a ++ b ++ c ++ d ++ lines) e,
+)
+ends_so (Err f) t a t1 b t2 c t3 d t4 lines t5 e t6 one two three four five six = tt

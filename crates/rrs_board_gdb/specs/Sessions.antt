@@ -62,6 +62,27 @@ pub record RemovesStop (text : List ℕ) (b b' : Breaks) (old new : List ℕ) : 
   pub refused : ((place : Break) → ¬ IsBreak text place) → IsError old new
   pub kept : IsError old new → b'.stops.items ≡ b.stops.items
 
+-- `D` or `vKill`, by which gdb ends the session, and waits for an answer
+abbrev pub IsEnding : List ℕ → Type 0
+IsEnding payload =
+    (letter payload ≡ 68) ⊎ ((rest : List ℕ) × (payload ≡ codes "vKill" ++ rest))
+
+-- packets that are taken, whatever the state: `H`, `T`, that nothing is acknowledged, and an end
+abbrev pub IsTaken : List ℕ → Type 0
+IsTaken payload =
+    (letter payload ≡ 72) ⊎ (letter payload ≡ 84) ⊎ (payload ≡ codes "QStartNoAckMode")
+    ⊎ IsEnding payload
+
+-- What is told of the session: the one thread, 1, that the board ran before gdb came, which actions
+-- there are, and that a packet is taken.
+pub record Tells (payload old new : List ℕ) : Type 0 where
+  pub thread : before 58 payload ≡ codes "qC" → new ≡ old ++ codes "QC1"
+  pub threads : before 58 payload ≡ codes "qfThreadInfo" → new ≡ old ++ codes "m1"
+  pub no_more : before 58 payload ≡ codes "qsThreadInfo" → new ≡ old ++ codes "l"
+  pub attached : before 58 payload ≡ codes "qAttached" → new ≡ old ++ codes "1"
+  pub offers : payload ≡ codes "vCont?" → new ≡ old ++ codes "vCont;c;C;s;S"
+  pub takes : IsTaken payload → new ≡ old ++ codes "OK"
+
 -- `D` and `vKill` end the session once they are answered, and `k` ends it at once. Other packets
 -- are answered, and the session goes on.
 pub record EndsBy (payload : List ℕ) (next : Next) : Type 0 where

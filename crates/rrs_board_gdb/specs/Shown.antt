@@ -1,18 +1,22 @@
 -- How gdb is shown a board (gdb's manual, "RISC-V Features": org.gnu.gdb.riscv.csr, and "Remote
 -- Serial Protocol", "Packets": p, P, m, M, X), and what it can change. The registers are x0 to x31,
 -- the pc, and, from 65 on, the CSRs by their numbers. Of memory RAM is shown, and no device.
-use Rattle.std.specs.Prelude.{◌≡◌, ℕ, ◌-◌, ◌^◌, ◌==◌, ◌&&◌, nat_le, nat_lt, Bool, false, if◌then◌else◌, slice_set, Option, Some, None}
+use Rattle.std.specs.Prelude.{◌≡◌, ℕ, zero, suc, pos, ◌+◌, ◌-◌, ◌==◌, ◌++◌, nat_lt, Bool, if◌then◌else◌, List, [], drop, is_some, slice_set, codes, Option, Some, None}
+use Rattle.std.specs.Fmt.{decimal}
 use Rattle.rrs_lib.specs.declared.HartState.{HartState}
 use Rattle.rrs_lib.specs.Machine.{State, state_of}
 use Rattle.rrs_memory.specs.Bytes.{ByteMap}
-use Rattle.rrs_memory.specs.VecBytes.{vec_bytes, vec_writable}
 use Rattle.rrs_words.specs.declared.csrs.Csr.{Csr}
 use Rattle.rrs_words.specs.CsrNumbers.{csr_at, is_read_only}
 use Rattle.rrs_machine.specs.Csrs.{csr_value, csr_written}
 use Rattle.rrs_board.specs.declared.board.Board.{Board}
-use Rattle.rrs_board.specs.Registers.{board_bytes, board_writable, ram_start}
+use Rattle.rrs_board.specs.Registers.{ram_bytes, ram_writable, board_bytes, board_writable}
 use Rattle.rrs_board.specs.Effects.{inputs_of}
+use Rattle.rrs_gdb.specs.Packets.{before, behind}
 use Rattle.rrs_gdb.specs.Shown.{register}
+use Rattle.rrs_lib.specs.declared.instruction_formats.IType.{IType}
+use Rattle.rrs_words.specs.declared.instructions.SystemRow.TheVariants.{Csrrs}
+use Rattle.rrs_words.specs.SystemTexts.{system_text}
 
 -- ---- registers
 
@@ -49,37 +53,44 @@ with_register b n value =
 
 -- ---- RAM
 
--- each byte of RAM by its distance from where RAM begins
-abbrev pub ram_bytes : Board → ByteMap
-ram_bytes b = vec_bytes b.memory.ram
+-- each byte of RAM by its address
+abbrev pub byte_at : Board → ByteMap
+byte_at b = ram_bytes b.memory.ram
 
-abbrev pub ram_writable : Board → ℕ → Bool
-ram_writable b = vec_writable b.memory.ram
+abbrev pub is_writable_at : Board → ℕ → Bool
+is_writable_at b = ram_writable b.memory.ram
 
 -- the hart, its CSRs and the devices are as they were, and RAM begins and ends where it did
 pub record SameButRam (old new : Board) : Type 0 where
   pub hart_kept : new.hart ≡ old.hart
   pub csrs_kept : new.csrs ≡ old.csrs
   pub devices_kept : new.memory.devices ≡ old.memory.devices
-  pub writable_kept : ram_writable new ≡ ram_writable old
+  pub writable_kept : is_writable_at new ≡ is_writable_at old
 
 -- and each byte of RAM is as it was
 pub record SameBoard (old new : Board) : Type 0 where
   pub rest_kept : SameButRam old new
-  pub bytes_kept : ram_bytes new ≡ ram_bytes old
-
--- ---- RAM by its addresses
-
--- from where RAM begins up to the last address
-abbrev pub is_place : ℕ → Bool
-is_place a = nat_le ram_start a && nat_lt a (2 ^ 32)
-
-abbrev pub byte_at : Board → ByteMap
-byte_at b a = if is_place a then ram_bytes b (a - ram_start) else None
-
-abbrev pub is_writable_at : Board → ℕ → Bool
-is_writable_at b a = if is_place a then ram_writable b (a - ram_start) else false
+  pub bytes_kept : byte_at new ≡ byte_at old
 
 -- the hart, with RAM as its memory and nothing else
 abbrev pub ram_state : Board → State
 ram_state b = state_of b.hart (byte_at b) (is_writable_at b)
+
+-- ---- the description of the target
+
+-- the CSR in the text of an instruction on it: what stands between its two commas, after a blank
+abbrev pub csr_in : List ℕ → List ℕ
+csr_in text = before 44 (drop 1 (behind 44 text))
+
+-- The line of a CSR: its name as the texts of instructions have it, and gdb's number for it.
+unfoldable pub csr_line : ℕ → List ℕ
+csr_line number =
+    let read : IType = record { imm = pos number; rs1 = 0; funct3 = 2; rd = 0 } in
+    codes "<reg name=\"" ++ csr_in (system_text Csrrs read)
+    ++ codes "\" bitsize=\"32\" type=\"uint32\" regnum=\"" ++ decimal (number + 65)
+    ++ codes "\"/>\n"
+
+-- the lines of the CSRs with numbers below this
+unfoldable pub csr_lines : ℕ → List ℕ
+csr_lines zero = []
+csr_lines (suc n) = csr_lines n ++ (if is_some (csr_at n) then csr_line n else [])

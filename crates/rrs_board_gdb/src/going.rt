@@ -163,6 +163,7 @@ impl<'a> DebuggedBoard<'a> {
         ensures sent { OnOk result (Prints W.contents link.old link.new self.old.output.items) }
         ensures emptied { OnOk result (self.new.output.items ≡ []) }
         ensures kept { debugged self.new ≡ debugged self.old }
+        ensures acknowledges { link.new.acknowledges ≡ link.old.acknowledges }
     {
         link.send_output(&self.output)?;
         self.output.clear();
@@ -186,6 +187,7 @@ impl<'a> DebuggedBoard<'a> {
             (debugged self.new)
             × Prints W.contents link.old link.new (self.old.output.items ++ printed)) }
         ensures emptied { OnOk result (self.new.output.items ≡ []) }
+        ensures acknowledges { link.new.acknowledges ≡ link.old.acknowledges }
     {
         self.send(link)?;
         let mut steps = 0;

@@ -11,7 +11,7 @@ ghost use Rattle.rrs_board_gdb.specs.declared.session.BoardStop.{BoardStop};
 ghost use Rattle.rrs_board_gdb.specs.Going.{debugged};
 ghost use Rattle.rrs_board_gdb.specs.Shown.{SameBoard, SameButRam, byte_at, ram_state, with_register};
 ghost use Rattle.rrs_board_gdb.specs.Answers.{Asks, HasSubject, Inspects, Leaves, Means};
-ghost use Rattle.rrs_board_gdb.specs.Sessions.{Changes, EndsBy, GoesBy, GoesFrom, IsContinue, IsGoing, IsStep, RemovesStop, SetsRegister, SetsStop, ShowsRegister, stop_of, stop_text};
+ghost use Rattle.rrs_board_gdb.specs.Sessions.{Changes, EndsBy, GoesBy, GoesFrom, IsContinue, IsEnding, IsGoing, IsStep, IsTaken, Tells, RemovesStop, SetsRegister, SetsStop, ShowsRegister, stop_of, stop_text};
 
 use crate::going::{DebuggedBoard, GoReason};
 use crate::ram::{change_ram, show_ram};
@@ -21,8 +21,8 @@ use hex::FromHexError;
 use rrs_board::{Asking, Board};
 use rrs_gdb::{
     BAD_ADDRESS, Break, Breaks, INVALID, Link, LinkError, NO_MEMORY, Next, Received,
-    address_and_length, behind, break_of, cut_or_all, number_of, place_and_bytes, push_bytes,
-    push_done, push_hex, push_part, push_registers, push_text, register_and_value,
+    address_and_length, answer_of, behind, break_of, cut_or_all, number_of, place_and_bytes,
+    push_bytes, push_done, push_hex, push_part, push_registers, push_text, register_and_value,
 };
 use std::alloc::{AllocError, Global};
 use std::io::{Read, Write};
@@ -301,6 +301,7 @@ fn go<R: Read, W: Write>(
     ensures limit { session.new.limit ≡ session.old.limit }
     ensures goes { OnOk result (GoesFrom session.old.stop is_step session.old.breaks.stops.items limit
         (debugged session.old.debugged) (debugged session.new.debugged) session.new.stop) }
+    ensures acknowledges { link.new.acknowledges ≡ link.old.acknowledges }
 {
     match session.stop {
         BoardStop::Exited(_) => Ok(()),
@@ -328,6 +329,7 @@ fn go_on<R: Read, W: Write>(
     ensures error { OnOk result (IsError reply.old.items reply.new.items
         → SameBoard session.old.debugged.board session.new.debugged.board) }
     ensures reply { IfOk result (λ next. next ≡ Next.Reply) }
+    ensures acknowledges { link.new.acknowledges ≡ link.old.acknowledges }
 {
     let Some((limit, is_step)) = limit_of(action, session.limit) else {
         push_invalid(reply)?;
@@ -362,6 +364,7 @@ fn resume<R: Read, W: Write>(
     ensures error { OnOk result (IsError reply.old.items reply.new.items
         → SameBoard session.old.debugged.board session.new.debugged.board) }
     ensures reply { IfOk result (λ next. next ≡ Next.Reply) }
+    ensures acknowledges { link.new.acknowledges ≡ link.old.acknowledges }
 {
     let (action, _others) = cut_or_all(actions, b';');
     let (action, _thread) = cut_or_all(action, b':');
@@ -396,29 +399,29 @@ fn remove_stop(breaks: &mut Breaks, text: &[u8]) -> &'static [u8]
     }
 }
 
-/// What is answered to a packet that begins with `q` and one of these.
-static ANSWERS: [(&[u8], &[u8]); 5] = [
-    (b"Supported", SUPPORTED),
-    (b"Attached", b"1"),
-    (b"C", b"QC1"),
-    (b"fThreadInfo", b"m1"),
-    (b"sThreadInfo", b"l"),
-];
-
 /// Answers a packet that begins with `q`.
-fn query(alloc: Global, reply: &mut Vec<u8>, asked: &[u8]) -> Result<(), AllocError> {
-    if let Some(place) = behind(asked, b"Xfer:features:read:target.xml:") {
+fn query(alloc: Global, reply: &mut Vec<u8>, payload: &[u8]) -> Result<(), AllocError>
+    ensures { letter payload.now ≡ 113 → OnOk result
+        (Tells payload.now reply.old.items reply.new.items) }
+{
+    if let Some(place) = behind(payload, b"qXfer:features:read:target.xml:") {
         let mut target = Vec::new(alloc);
         push_target(alloc, &mut target)?;
         return push_part(reply, &target, place);
     }
-    let subject = cut_or_all(asked, b':').0;
-    for (name, text) in &ANSWERS {
-        if *name == subject {
-            return push_text(reply, text);
-        }
+    let word = cut_or_all(payload, b':').0;
+    if word == b"qSupported".as_slice() {
+        return push_text(reply, SUPPORTED);
     }
-    Ok(())
+    push_text(reply, answer_of(false, word))
+}
+
+/// Whether a packet begins with `q`.
+fn is_question(payload: &[u8]) -> bool
+    ensures yes { OnTrue result (letter payload.now ≡ 113) }
+    ensures no { OnFalse result (letter payload.now ≢ 113) }
+{
+    matches!(payload, [b'q', ..])
 }
 
 /// Answers a packet that is about the session alone.
@@ -437,12 +440,15 @@ fn tell(
         reply.old.items reply.new.items) }
     ensures error { OnOk result (IsError reply.old.items reply.new.items
         → session.new.breaks.stops.items ≡ session.old.breaks.stops.items) }
+    ensures tells { OnOk result (Tells payload.now reply.old.items reply.new.items) }
 {
+    if is_question(payload) {
+        return query(alloc, reply, payload);
+    }
     match payload {
         [b'?'] => push_stop(reply, session.stop),
         [b'Z', text @ ..] => push_text(reply, set_stop(&mut session.breaks, text)),
         [b'z', text @ ..] => push_text(reply, remove_stop(&mut session.breaks, text)),
-        [b'q', text @ ..] => query(alloc, reply, text),
         _ => push_text(reply, plain_answer(payload)),
     }
 }
@@ -475,6 +481,10 @@ fn manage<R, W>(
         reply.old.items reply.new.items) }
     ensures error { OnOk result (IsError reply.old.items reply.new.items
         → session.new.breaks.stops.items ≡ session.old.breaks.stops.items) }
+    ensures tells { OnOk result (Tells payload.now reply.old.items reply.new.items) }
+    ensures silences { payload.now ≡ codes "QStartNoAckMode" → link.new.acknowledges ≡ false }
+    ensures acknowledges { payload.now ≢ codes "QStartNoAckMode"
+        → link.new.acknowledges ≡ link.old.acknowledges }
     ensures ends { IfOk result (λ next. EndsBy payload.now next) }
 {
     if payload == b"QStartNoAckMode".as_slice() {
@@ -485,12 +495,20 @@ fn manage<R, W>(
 }
 
 /// Whether gdb ends the session, and waits for an answer.
-fn ends_session(payload: &[u8]) -> bool {
+fn ends_session(payload: &[u8]) -> bool
+    ensures detaches { letter payload.now ≡ 68 → result ≡ true }
+    ensures kills { (rest : List ℕ) → payload.now ≡ codes "vKill" ++ rest → result ≡ true }
+    ensures only { OnTrue result (IsEnding payload.now) }
+{
     payload.starts_with(b"D") || payload.starts_with(b"vKill")
 }
 
 /// What is answered to any other packet, whatever the state: nothing where it is not known.
-fn plain_answer(payload: &[u8]) -> &'static [u8] {
+fn plain_answer(payload: &[u8]) -> &'static [u8]
+    ensures offers { payload.now ≡ codes "vCont?" → result.now ≡ codes "vCont;c;C;s;S" }
+    ensures takes { IsTaken payload.now → result.now ≡ codes "OK" }
+    ensures none { payload.now ≢ codes "vCont?" → ¬ IsTaken payload.now → result.now ≡ [] }
+{
     if payload == b"vCont?".as_slice() {
         return b"vCont;c;C;s;S";
     }
@@ -521,6 +539,10 @@ fn answer_by_subject<R: Read, W: Write>(
     ensures leaves { Leaves payload.now session.old session.new }
     ensures means { OnOk result (Means payload.now session.old session.new
         reply.old.items reply.new.items) }
+    ensures tells { OnOk result (Tells payload.now reply.old.items reply.new.items) }
+    ensures silences { payload.now ≡ codes "QStartNoAckMode" → link.new.acknowledges ≡ false }
+    ensures acknowledges { payload.now ≢ codes "QStartNoAckMode"
+        → link.new.acknowledges ≡ link.old.acknowledges }
     ensures ends { IfOk result (λ next. EndsBy payload.now next) }
 {
     if let Some(actions) = actions_of(payload) {
@@ -596,6 +618,10 @@ pub fn answer_to<R: Read, W: Write>(
         reply.old.items reply.new.items) }
     ensures stopped { payload.now ≡ codes "?" → OnOk result
         (reply.new.items ≡ reply.old.items ++ stop_text session.old.stop) }
+    ensures tells { OnOk result (Tells payload.now reply.old.items reply.new.items) }
+    ensures silences { payload.now ≡ codes "QStartNoAckMode" → link.new.acknowledges ≡ false }
+    ensures acknowledges { payload.now ≢ codes "QStartNoAckMode"
+        → link.new.acknowledges ≡ link.old.acknowledges }
     ensures ends { IfOk result (λ next. EndsBy payload.now next) }
 {
     answer_by_subject(session, link, reply, payload)

@@ -1,11 +1,13 @@
 //! What gdb is told of the board's registers.
 
-ghost use Rattle.std.specs.Prelude.{◌<◌};
+ghost use Rattle.std.specs.Prelude.{◌≡◌, ◌++◌, ℕ, List, OnOk, codes};
+ghost use Rattle.rrs_board_gdb.specs.Shown.{csr_in, csr_line, csr_lines};
 
 use crate::registers::FIRST_CSR;
-use rrs_gdb::{TARGET, cut, push_text};
+use rrs_gdb::{TARGET, cut_or_all, push_text};
+use rrs_lib::instruction_formats::IType;
 use rrs_machine::Csr;
-use rrs_words::{decode_system, system_text};
+use rrs_words::{SystemInstruction, SystemRow, system_text};
 use std::alloc::{AllocError, Global};
 
 /// What begins the description of a target.
@@ -18,33 +20,49 @@ const HEAD: &[u8] = b"<?xml version=\"1.0\"?>
 /// not stop at them.
 const NO_SYSTEM: &[u8] = b"<osabi>none</osabi>\n";
 /// What ends the description of a target.
-const END: &[u8] = b"</target>\n";
+const END: &[u8] = b"</feature>\n</target>\n";
 
 /// The name of a CSR in the text of an instruction on it, as `csrrs x0, mstatus, x0`.
-fn name_in(text: &[u8]) -> &[u8] {
-    match cut(text, b',') {
-        Some((_rd, [_blank, operands @ ..])) => match cut(operands, b',') {
-            Some((name, _rs1)) => name,
-            None => &[],
-        },
-        _ => &[],
+fn name_in(text: &[u8]) -> &[u8]
+    ensures { result.now ≡ csr_in text.now }
+{
+    match cut_or_all(text, b',').1 {
+        [_blank, operands @ ..] => cut_or_all(operands, b',').0,
+        [] => &[],
     }
 }
 
 /// Appends the line of a CSR, by the number that gdb has for it.
-fn push_csr(alloc: Global, text: &mut Vec<u8>, number: u32) -> Result<(), AllocError>
-    requires { number < 4096 }
+fn push_csr(alloc: Global, text: &mut Vec<u8>, number: u16) -> Result<(), AllocError>
+    ensures { OnOk result (text.new.items ≡ text.old.items ++ csr_line number) }
 {
-    let Some(instruction) = decode_system((number << 20) | 0x2073) else {
-        return Ok(());
+    let instruction = SystemInstruction {
+        row: SystemRow::Csrrs,
+        fields: IType {
+            imm: i32::from(number),
+            rs1: 0,
+            funct3: 2,
+            rd: 0,
+        },
     };
     push_text(text, b"<reg name=\"")?;
     push_text(text, name_in(system_text(&instruction).as_str().as_bytes()))?;
-    let place = format!(in alloc;
-        "\" bitsize=\"32\" type=\"uint32\" regnum=\"{}\"/>\n",
-        number + FIRST_CSR
-    )?;
-    push_text(text, place.as_bytes())
+    push_text(text, b"\" bitsize=\"32\" type=\"uint32\" regnum=\"")?;
+    let place = format!(in alloc; "{}", u32::from(number) + FIRST_CSR)?;
+    push_text(text, place.as_bytes())?;
+    push_text(text, b"\"/>\n")
+}
+
+/// Appends the lines of all CSRs, by their numbers.
+fn push_csrs(alloc: Global, text: &mut Vec<u8>) -> Result<(), AllocError>
+    ensures { OnOk result (text.new.items ≡ text.old.items ++ csr_lines 4096) }
+{
+    for number in 0..0x1000_u16 {
+        if Csr::at(u32::from(number)).is_some() {
+            push_csr(alloc, text, number)?;
+        }
+    }
+    Ok(())
 }
 
 /// Appends the description of the target: that it has no system, the registers that `rrs_gdb` has,
@@ -53,17 +71,18 @@ fn push_csr(alloc: Global, text: &mut Vec<u8>, number: u32) -> Result<(), AllocE
 /// # Errors
 ///
 /// Out of memory.
-pub fn push_target(alloc: Global, text: &mut Vec<u8>) -> Result<(), AllocError> {
+pub fn push_target(alloc: Global, text: &mut Vec<u8>) -> Result<(), AllocError>
+    ensures { OnOk result ((first : List ℕ) × (text.new.items
+        ≡ text.old.items ++ (first ++ csr_lines 4096 ++ codes "</feature>\n</target>\n"))) }
+{
     push_text(text, HEAD)?;
     push_text(text, NO_SYSTEM)?;
     let registers = TARGET.strip_prefix(HEAD).unwrap_or(TARGET);
-    push_text(text, registers.strip_suffix(END).unwrap_or(registers))?;
+    push_text(
+        text,
+        registers.strip_suffix(b"</target>\n").unwrap_or(registers),
+    )?;
     push_text(text, b"<feature name=\"org.gnu.gdb.riscv.csr\">\n")?;
-    for number in 0..0x1000 {
-        if Csr::at(number).is_some() {
-            push_csr(alloc, text, number)?;
-        }
-    }
-    push_text(text, b"</feature>\n")?;
+    push_csrs(alloc, text)?;
     push_text(text, END)
 }

@@ -1,6 +1,6 @@
 -- What an answer leaves and means, by the subject of the packet.
-use Rattle.std.proofs.Common.{◌≡◌, ◌≢◌, ◌⊎◌, ◌==◌, ◌||◌, if◌then◌else◌, ℕ, List, ◌∷◌, ◌++◌, drop, Bool, true, Result, Ok, Err, OnOk, IfOk, IsOk, codes, ◌-◌, ◌^◌, ◌<◌, length, slice_index, refl, sym, subst, ap, ◌∙◌, inl, inr, arith}
-use Rattle.std.specs.Bool.{OnTrue}
+use Rattle.std.proofs.Common.{◌≡◌, ◌≢◌, ◌⊎◌, ◌==◌, ◌||◌, if◌then◌else◌, ℕ, List, ◌∷◌, ◌++◌, drop, Bool, true, false, Result, Ok, Err, OnOk, IfOk, IsOk, codes, ◌-◌, ◌^◌, ◌<◌, length, slice_index, refl, sym, subst, ap, ◌∙◌, inl, inr, arith}
+use Rattle.std.specs.Bool.{OnTrue, OnFalse}
 use Rattle.std.proofs.lemmas.Bool.{OnTrue_at}
 use Rattle.hex.specs.Hex.{decode_of}
 use Rattle.rrs_lib.specs.Machine.{State}
@@ -11,9 +11,10 @@ use Rattle.rrs_gdb.specs.declared.session.Next.{Next}
 use Rattle.rrs_gdb.specs.declared.session.Subject.{Subject}
 use Rattle.rrs_gdb.specs.declared.session.Subject.TheVariants.{Shown, Changed, Run, Named, Back, Breaks, Query, Session}
 use Rattle.rrs_gdb.specs.declared.state.SessionState.{SessionState}
+use Rattle.rrs_gdb.specs.declared.state.Caught.{Caught}
 use Rattle.rrs_gdb.specs.declared.state.Settings.{Settings}
 use Rattle.rrs_gdb.specs.Packets.{IsNumber, number, before, behind}
-use Rattle.rrs_gdb.specs.Sessions.{letter, ChangesNone, RunsNone, ChangesRegister, ChangesMemory, BreaksNone, EndsBy, Monitors, RemovesBreak, SetsBreak, MemoryKept, RegistersKept, BreaksKept, SettingsKept, PlacesKept, SessionKept, ForgetsOrStays, has_ended, is_end, IsError, ShowsMemory, ShowsRegister, Asked, asked_by, Around, around, Most, one_step, up_to, GoesBy, HasAction, HasLetter, HasSignal, HasNoSignal, BySignal, Resumes, Signals, GoesOnUnless, Acts, GoesOnOrStays, SessionGoesBack}
+use Rattle.rrs_gdb.specs.Sessions.{letter, ChangesNone, RunsNone, ChangesRegister, ChangesMemory, BreaksNone, EndsBy, Monitors, RemovesBreak, SetsBreak, MemoryKept, RegistersKept, BreaksKept, SettingsKept, PlacesKept, SessionKept, ShowsPart, Tells, Catches, CatchesOrStays, Manages, ForgetsOrStays, has_ended, is_end, IsError, ShowsMemory, ShowsRegister, Asked, asked_by, Around, around, Most, one_step, up_to, GoesBy, HasAction, HasLetter, HasSignal, HasNoSignal, BySignal, Resumes, Signals, GoesOnUnless, Acts, GoesOnOrStays, SessionGoesBack}
 use Rattle.rrs_gdb.specs.Answers.{Moment, around_in, ShowsNone, HasSubject, Shows, Sets, BeginsBy, Here, There, Goes, ActsBy, Returns, Asks, Stays, Leaves, Means}
 use Rattle.rrs_gdb.specs.Shown.{registers_text, stop_text}
 use Rattle.rrs_gdb.proofs.SessionLemmas.{BeginsAt, asked_kept, goes_same, step_from, go_from, resumes_here, resumes_there, resumes_not, signals_here, signals_there, signals_nowhere, signals_not}
@@ -724,3 +725,68 @@ ends_breaks r payload is = ends_ok r payload Breaks (breaks_at payload is) (λ e
 pub ends_query : {F : Type 0} (r : Result Next F) (payload : List ℕ) → HasSubject payload Query
     → IfOk r (λ next. EndsBy payload next)
 ends_query r payload is = ends_ok r payload Query (ap subject_at is) (λ e. cc)
+
+-- ---- what is told of the session
+
+part_at : (n : ℕ) (asked : List ℕ) (word place payload : List ℕ) → payload ≡ codes "qXfer:" ++ asked
+    → payload ≡ codes "qXfer:" ++ (word ++ place) → asked ≡ word ++ place
+part_at n asked word place payload is at = ap (λ (xs : List ℕ). drop 6 xs) (sym is ∙ at)
+
+other_word : (payload asked : List ℕ) → payload ≡ codes "qXfer:" ++ asked → before 58 payload ≡ codes "qXfer"
+other_word payload asked is = ap (λ (xs : List ℕ). before 58 xs) is
+
+third_of : (xs ys : List ℕ) (n : ℕ) → xs ≡ ys → slice_index xs n ≡ slice_index ys n
+third_of xs ys n same = ap (λ (zs : List ℕ). slice_index zs n) same
+
+pub tells_part : {F : Type 0} (r : Result Unit F) (target path : List ℕ) (is_extended : Bool) (payload asked old new : List ℕ)
+    → payload ≡ codes "qXfer:" ++ asked
+    → ((place : List ℕ) → asked ≡ codes "features:read:target.xml:" ++ place → OnOk r (ShowsPart target place old new))
+    → ((rest : List ℕ) → asked ≡ codes "exec-file:read:" ++ rest → OnOk r (ShowsPart path (behind 58 rest) old new))
+    → OnOk r (Tells target path is_extended payload old new)
+tells_part (Ok x) target path is_extended payload asked old new is at_target at_path = record {
+  thread = λ word. absurd (omega (arith, third_of _ _ 1 (sym (other_word payload asked is) ∙ word)));
+  threads = λ word. absurd (omega (arith, third_of _ _ 1 (sym (other_word payload asked is) ∙ word)));
+  no_more = λ word. absurd (omega (arith, third_of _ _ 1 (sym (other_word payload asked is) ∙ word)));
+  attached = λ word. absurd (omega (arith, third_of _ _ 1 (sym (other_word payload asked is) ∙ word)));
+  target_part = λ place whole. at_target place (part_at 6 asked (codes "features:read:target.xml:") place payload is whole);
+  path_part = λ rest whole. at_path rest (part_at 6 asked (codes "exec-file:read:") rest payload is whole);
+}
+tells_part (Err f) target path is_extended payload asked old new is at_target at_path = tt
+
+-- ---- which calls are caught
+
+pub catches_or_stays : {F : Type 0} (r : Result Unit F) (is_done : Bool) (found asked : List ℕ) (s t : SessionState) (old new : List ℕ)
+    → found ≡ asked → OnTrue is_done (Catches found t.caught)
+    → OnFalse is_done ((t ≡ s) × ((caught : Caught) → ¬ Catches found caught))
+    → OnOk r (OnTrue is_done (IsError old new → ⊥)) → OnOk r (OnFalse is_done (IsError old new))
+    → OnOk r (CatchesOrStays asked s t old new)
+catches_or_stays (Ok x) true found asked s t old new same caught none done refused =
+    inl (subst (λ (xs : List ℕ). Catches xs t.caught) same caught, done)
+catches_or_stays (Ok x) false found asked s t old new same caught none done refused =
+    inr ((λ other is. none.1 other (subst (λ (xs : List ℕ). Catches xs other) (sym same) is)), none.0, refused)
+catches_or_stays (Err f) is_done found asked s t old new same caught none done refused = tt
+
+-- ---- `Q`
+
+pub manages_set : {F : Type 0} (r : Result Unit F) (payload text : List ℕ) (s t : SessionState) (old new : List ℕ)
+    (acknowledges acknowledges' : Bool) → payload ≡ 81 ∷ text
+    → (text ≡ codes "StartNoAckMode" → OnOk r ((new ≡ old ++ codes "OK") × (acknowledges' ≡ false)))
+    → (text ≢ codes "StartNoAckMode" → acknowledges' ≡ acknowledges)
+    → ((asked : List ℕ) → text ≡ codes "CatchSyscalls:" ++ asked → OnOk r (CatchesOrStays asked s t old new))
+    → OnOk r (Manages payload s t old new acknowledges acknowledges')
+manages_set (Ok x) payload text s t old new acknowledges acknowledges' is silences kept catches =
+    let at : letter payload ≡ 81 = first_of payload (81 ∷ text) is in
+    record {
+      accepts = λ other. absurd (elim other [
+        | inl h ↦ omega (arith, at, h)
+        | inr others ↦ elim others [
+          | inl h ↦ omega (arith, at, h)
+          | inr h ↦ omega (arith, at, h)
+        ]
+      ]);
+      extends = λ whole. absurd (omega (arith, at, first_of payload (codes "!") whole));
+      silences = λ whole. silences (ap (λ (xs : List ℕ). drop 1 xs) (sym is ∙ whole));
+      acknowledged = λ other. kept (λ same. other (is ∙ ap (λ (xs : List ℕ). 81 ∷ xs) same));
+      catches = λ asked whole. catches asked (ap (λ (xs : List ℕ). drop 1 xs) (sym is ∙ whole));
+    }
+manages_set (Err f) payload text s t old new acknowledges acknowledges' is silences kept catches = tt

@@ -8,3 +8,4 @@ pub mod AnswerLemmas
 pub mod ChangeLemmas
 pub mod EntryLemmas
 pub mod OutputLemmas
+pub mod LinkLemmas

@@ -3,7 +3,7 @@
 -- and `}` are sent as `}` and the byte with its bit of value 32 turned; in an answer `*` too, which
 -- there begins a run of a byte. Numbers in a payload are hexadecimal, and a comma, a colon, a
 -- semicolon or an equals sign stands between two of its fields.
-use Rattle.std.specs.Prelude.{◌≡◌, ◌≢◌, ◌⊎◌, ℕ, ◌/◌, ◌%◌, ◌^◌, ◌<◌, ◌≤◌, ◌==◌, ◌||◌, if◌then◌else◌, List, [], ◌∷◌, ◌++◌, length, sum, slice_index, bit_xor, Bool, true, false, Option, Some, None, option_map, Ok, codes}
+use Rattle.std.specs.Prelude.{◌≡◌, ◌≢◌, ◌⊎◌, ℕ, ◌/◌, ◌%◌, ◌^◌, ◌<◌, ◌≤◌, ◌==◌, ◌||◌, if◌then◌else◌, List, [], ◌∷◌, ◌++◌, length, take, sum, slice_index, nat_lt, bit_xor, Bool, true, false, Option, Some, None, option_map, Ok, codes}
 use Rattle.std.specs.Str.Parse.{IsNumeral, digits_value}
 use Rattle.std.specs.Str.{IsUtf8}
 use Rattle.hex.specs.Hex.{lower_digits, decode_of, decode_sized}
@@ -81,6 +81,60 @@ IsMeaning acknowledges frame (Some Is.Bad) =
     ⊎ (unescaped frame.bytes.items ≡ None)
 IsMeaning acknowledges frame (Some Is.End) = ⊥
 
+-- what stands before the first of these bytes, which is all where there is none
+abbrev pub before : ℕ → List ℕ → List ℕ
+before at [] = []
+before at (b ∷ bs) = if b == at then [] else b ∷ before at bs
+
+-- what stands after it, which is nothing where there is none
+abbrev pub behind : ℕ → List ℕ → List ℕ
+behind at [] = []
+behind at (b ∷ bs) = if b == at then bs else behind at bs
+
+-- what stands after the last of these bytes, and after what was there before where there is none
+abbrev pub since_last : ℕ → List ℕ → List ℕ → List ℕ
+since_last at before [] = before
+since_last at before (b ∷ bs) =
+    if b == at then since_last at [] bs else since_last at (before ++ b ∷ []) bs
+
+-- A packet as it is read after its `$`: bytes up to `#`, and two digits. A `$` among the bytes
+-- begins another packet. One of more than 16,384 bytes is too long.
+pub record IsFrame (read : List ℕ) (frame : Frame) : Type 0 where
+  pub all : read ≡ before 35 read ++ 35 ∷ frame.digits
+  pub kept : frame.bytes.items ≡ take 16384 (since_last 36 [] (before 35 read))
+  pub long : frame.is_long ≡ nat_lt 16384 (length (since_last 36 [] (before 35 read)))
+
+-- What is received of the bytes that are read, and the bytes that are written meanwhile, where this
+-- packet was sent last (gdb's manual, "Remote Serial Protocol", "Overview" and "Packet
+-- Acknowledgment"): `+` acknowledges a packet, and `-` asks for it again.
+pub data Receives (acknowledges : Bool) (last : List ℕ) (received : Received)
+    : List ℕ → List ℕ → Type 0 where
+  -- a packet
+  Taken : (read : List ℕ) (frame : Frame) → IsFrame read frame
+      → IsMeaning acknowledges frame (Some received)
+      → Receives acknowledges last received (36 ∷ read)
+      (if acknowledges then codes "+" else [])
+  -- a packet that is asked for again, and what follows
+  AskedAgain : (read rest written : List ℕ) (frame : Frame) → IsFrame read frame
+      → IsMeaning acknowledges frame None → Receives acknowledges last received rest written
+      → Receives acknowledges last received (36 ∷ read ++ rest) (codes "-" ++ written)
+  -- a `-`, by which the last packet is sent again, and what follows
+  SentAgain : (rest written : List ℕ) → Receives acknowledges last received rest written
+      → Receives acknowledges last received (45 ∷ rest) (last ++ written)
+  -- another byte, which is skipped, and what follows
+  Skipped : (b : ℕ) (rest written : List ℕ) → b ≢ 36 → b ≢ 45
+      → Receives acknowledges last received rest written
+      → Receives acknowledges last received (b ∷ rest) written
+
+-- what comes of such bytes, where a packet or none is received of them
+abbrev pub ComesTo : Bool → List ℕ → Option Received → List ℕ → List ℕ → Type 0
+ComesTo acknowledges last (Some received) read written =
+    Receives acknowledges last received read written
+ComesTo acknowledges last None read written =
+    (received : Received) (rest more : List ℕ)
+    → Receives acknowledges last received rest more
+    → Receives acknowledges last received (read ++ rest) (written ++ more)
+
 -- ---- the numbers and the fields of a payload
 
 -- one to eight hexadecimal digits, and the number that they are
@@ -96,16 +150,6 @@ IsDecimal digits = IsNumeral 10 digits × (digits_value 10 digits < 2 ^ 64)
 
 abbrev pub decimal : List ℕ → ℕ
 decimal digits = digits_value 10 digits
-
--- what stands before the first of these bytes, which is all where there is none
-abbrev pub before : ℕ → List ℕ → List ℕ
-before at [] = []
-before at (b ∷ bs) = if b == at then [] else b ∷ before at bs
-
--- what stands after it, which is nothing where there is none
-abbrev pub behind : ℕ → List ℕ → List ℕ
-behind at [] = []
-behind at (b ∷ bs) = if b == at then bs else behind at bs
 
 -- numbers with semicolons between
 abbrev pub AreNumbers : List ℕ → List ℕ → Type 0

@@ -1,6 +1,6 @@
 -- What a packet may change, by its letter (gdb's manual, "Remote Serial Protocol", "Packets"). Most
 -- packets ask, and change nothing of the program.
-use Rattle.std.specs.Prelude.{◌≡◌, ◌≢◌, ◌⊎◌, ℕ, zero, suc, ◌+◌, ◌-◌, ◌*◌, ◌%◌, ◌^◌, ◌<◌, ◌≤◌, List, [], ◌++◌, Contains, Bool, true, false, drop, take, length, slice_index, nat_lt, if◌then◌else◌, Option, Some, None, Ok, Err, IsOk, codes}
+use Rattle.std.specs.Prelude.{◌≡◌, ◌≢◌, ◌⊎◌, ℕ, zero, suc, ◌+◌, ◌-◌, ◌*◌, ◌%◌, ◌^◌, ◌<◌, ◌≤◌, List, [], ◌++◌, Contains, map, string_bytes, Bool, true, false, drop, take, length, slice_index, nat_lt, if◌then◌else◌, Option, Some, None, Ok, Err, IsOk, codes}
 use Rattle.std.specs.Fmt.{digits}
 use Rattle.hex.specs.Hex.{decode_of, decode_sized}
 use Rattle.rrs_lib.specs.Bytes.{ByteMap}
@@ -26,7 +26,9 @@ use Rattle.rrs_gdb.specs.declared.queries.Setting.TheVariants.{Steps, Limit, His
 use Rattle.rrs_gdb.specs.declared.session.Going.{Going}
 use Rattle.rrs_gdb.specs.declared.session.Going.TheVariants.{Step, Proceed, Killed}
 use Rattle.rrs_gdb.specs.declared.session.Next.{Next}
-use Rattle.rrs_gdb.specs.declared.session.Next.TheVariants.{ReplyAndEnd, End, Restart}
+use Rattle.rrs_gdb.specs.declared.session.Next.TheVariants.{Reply, ReplyAndEnd, End, Restart}
+use Rattle.rrs_gdb.specs.declared.session.SessionEnd.{SessionEnd}
+use Rattle.rrs_gdb.specs.declared.session.SessionEnd.TheVariants as Ending
 use Rattle.rrs_gdb.specs.declared.state.SessionState.{SessionState}
 use Rattle.rrs_gdb.specs.declared.state.Caught.{Caught}
 use Rattle.rrs_gdb.specs.declared.state.Stop.{Stop}
@@ -37,7 +39,7 @@ use Rattle.rrs_history.specs.Histories.{changes, room, past}
 use Rattle.rrs_gdb.specs.declared.back.BackEnd.{BackEnd}
 use Rattle.rrs_gdb.specs.declared.back.BackEnd.TheVariants as Back
 use Rattle.rrs_gdb.specs.Breaks.{GoesForward, GoesBack, KeepsSteps, WithBreak, WithoutBreak}
-use Rattle.rrs_gdb.specs.Packets.{AreNumbers, IsDecimal, IsNumber, decimal, number, before, behind, IsPlace, address_in, length_in}
+use Rattle.rrs_gdb.specs.Packets.{AreNumbers, AreTexts, IsDecimal, IsNumber, decimal, number, before, behind, IsPlace, address_in, length_in}
 use Rattle.rrs_gdb.specs.Shown.{Prints, register, register_text, text_of, with_register, word_at, HasBytes, stop_text}
 
 -- the letter of a packet: the first byte of its payload
@@ -67,6 +69,13 @@ pub record EndsBy (payload : List ℕ) (next : Next) : Type 0 where
   pub detaches : letter payload ≡ 68 → next ≡ ReplyAndEnd
   pub kills : payload ≡ codes "k" → next ≡ End
   pub restarts : letter payload ≡ 82 → next ≡ Restart
+
+-- how the session ends after a packet, if it does
+abbrev pub end_behind : Next → Option SessionEnd
+end_behind Reply = None
+end_behind ReplyAndEnd = Some Ending.Ended
+end_behind End = Some Ending.Ended
+end_behind Restart = Some Ending.Restart
 
 -- `G` or `P`
 abbrev pub ChangesRegister : List ℕ → Type 0
@@ -251,6 +260,37 @@ pub record ShowsPart (object place old new : List ℕ) : Type 0 where
   pub shown : IsPlace place → new ≡ old ++ part_text object (address_in place) (length_in place)
   pub refused : ¬ IsPlace place → IsError old new
 
+-- What is told of the session (gdb's manual, "General Query Packets" and "Library List Format"):
+-- the one thread, 1, whether the program ran before gdb came, and parts of the target's description
+-- and of the program's path.
+pub record Tells (target path : List ℕ) (is_extended : Bool) (payload old new : List ℕ)
+    : Type 0 where
+  pub thread : before 58 payload ≡ codes "qC" → new ≡ old ++ codes "QC1"
+  pub threads : before 58 payload ≡ codes "qfThreadInfo" → new ≡ old ++ codes "m1"
+  pub no_more : before 58 payload ≡ codes "qsThreadInfo" → new ≡ old ++ codes "l"
+  pub attached : before 58 payload ≡ codes "qAttached"
+      → new ≡ old ++ (if is_extended then codes "0" else codes "1")
+  pub target_part : (place : List ℕ) → payload ≡ codes "qXfer:features:read:target.xml:" ++ place
+      → ShowsPart target place old new
+  pub path_part : (rest : List ℕ) → payload ≡ codes "qXfer:exec-file:read:" ++ rest
+      → ShowsPart path (behind 58 rest) old new
+
+-- Packets that begin with `v` (gdb's manual, "Packets": vCont?, vKill and vRun): which actions there
+-- are; the program is killed, which ends the session unless it goes on after the program's end; and
+-- the program begins again, with the arguments after its name, which is not used.
+pub record NamedBy (payload : List ℕ) (next : Next) (s t : SessionState) (old new : List ℕ)
+    : Type 0 where
+  pub offers : payload ≡ codes "vCont?" → (new ≡ old ++ codes "vCont;c;C;s;S") × (next ≡ Reply)
+  pub kills : (rest : List ℕ) → payload ≡ codes "vKill" ++ rest → (new ≡ old ++ codes "OK")
+      × (next ≡ (if s.is_extended then Reply else ReplyAndEnd))
+  pub begins : (rest : List ℕ) (texts : List (List ℕ)) → payload ≡ codes "vRun;" ++ rest
+      → AreTexts texts (behind 59 rest) → (next ≡ Restart)
+      × AreTexts (map string_bytes t.arguments.items) (behind 59 rest)
+      × (t.has_arguments ≡ true) × (t.owes_stop ≡ true)
+  pub refused : (rest : List ℕ) → payload ≡ codes "vRun;" ++ rest
+      → ((texts : List (List ℕ)) → ¬ AreTexts texts (behind 59 rest))
+      → IsError old new × (next ≡ Reply)
+
 -- ---- `monitor`, a command that stands in digits after `qRcmd,`: a word, a blank and an argument
 
 abbrev pub word_of : Setting → List ℕ
@@ -318,6 +358,27 @@ pub data Catches (text : List ℕ) (caught : Caught) : Type 0 where
   CatchesSome : before 59 text ≡ codes "1" → AreNumbers caught.numbers.items (behind 59 text)
       → (behind 59 text ≡ [] → caught.are_all ≡ true)
       → (behind 59 text ≢ [] → caught.are_all ≡ false) → Catches text caught
+
+-- the calls that a text names are caught, or it names none, and nothing changes
+abbrev pub CatchesOrStays : List ℕ → SessionState → SessionState → List ℕ → List ℕ → Type 0
+CatchesOrStays asked s t old new =
+    (Catches asked t.caught × ¬ IsError old new)
+    ⊎ (((caught : Caught) → ¬ Catches asked caught) × (t ≡ s) × IsError old new)
+
+-- Packets that are about the session alone (gdb's manual, "Packets": !, D, H and T, and "General
+-- Query Packets": QStartNoAckMode and QCatchSyscalls): a thread is taken, and gdb lets go; by `!`
+-- the session goes on after the program's end; packets are no longer acknowledged; and calls are
+-- caught.
+pub record Manages (payload : List ℕ) (s t : SessionState) (old new : List ℕ)
+    (acknowledges acknowledges' : Bool) : Type 0 where
+  pub accepts : (letter payload ≡ 72) ⊎ (letter payload ≡ 84) ⊎ (letter payload ≡ 68)
+      → new ≡ old ++ codes "OK"
+  pub extends : payload ≡ codes "!" → (new ≡ old ++ codes "OK") × (t.is_extended ≡ true)
+  pub silences : payload ≡ codes "QStartNoAckMode"
+      → (new ≡ old ++ codes "OK") × (acknowledges' ≡ false)
+  pub acknowledged : payload ≢ codes "QStartNoAckMode" → acknowledges' ≡ acknowledges
+  pub catches : (asked : List ℕ) → payload ≡ codes "QCatchSyscalls:" ++ asked
+      → CatchesOrStays asked s t old new
 
 -- ---- where the program stops
 

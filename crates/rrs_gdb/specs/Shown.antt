@@ -3,7 +3,7 @@
 -- are x0 to x31 and then the pc, by the numbers of the target's description. And how it is told
 -- where the program stopped ("Stop Reply Packets": S, T, W and X).
 use Rattle.std.specs.Prelude.{◌≡◌, ℕ, zero, suc, ◌+◌, ◌*◌, ◌/◌, ◌%◌, ◌<◌, ◌≤◌, ◌==◌, if◌then◌else◌, List, [], ◌∷◌, ◌++◌, length, slice_index, slice_set, false, Option, Some, codes}
-use Rattle.std.specs.Io.KnownBytes.{Appends}
+use Rattle.std.specs.Io.KnownBytes.{Appends, Consumes}
 use Rattle.std.specs.Fmt.{digits}
 use Rattle.rrs_lib.specs.Bytes.{ByteMap}
 use Rattle.rrs_lib.specs.Machine.{State, reg, with_pc}
@@ -12,7 +12,9 @@ use Rattle.rrs_gdb.specs.declared.breaks.WatchKind.TheVariants as Kind
 use Rattle.rrs_gdb.specs.declared.state.Stop.{Stop}
 use Rattle.rrs_gdb.specs.declared.state.Stop.TheVariants.{Signal, Touched, AtBegin, Entry, Return, Exited, Killed}
 use Rattle.rrs_gdb.specs.declared.link.Link.{Link}
-use Rattle.rrs_gdb.specs.Packets.{digits_of, packet}
+use Rattle.rrs_gdb.specs.declared.link.Received.{Received}
+use Rattle.rrs_gdb.specs.declared.link.Received.TheVariants.{Packet, Bad}
+use Rattle.rrs_gdb.specs.Packets.{Receives, digits_of, packet}
 
 -- bytes as digits
 abbrev pub text_of : List ℕ → List ℕ
@@ -93,3 +95,34 @@ pub data SentAs : List ℕ → List ℕ → Type 0 where
 abbrev pub Prints : {R W : Type 0} → (W → Option (List ℕ)) → Link R W → Link R W → List ℕ → Type 0
 Prints contents old new output =
     (sent : List ℕ) × SentAs output sent × Appends (contents old.writer) (contents new.writer) sent
+
+-- ---- what is exchanged on a link
+
+-- what was read and what was written between two moments of a link
+pub record Exchanges {R W : Type 0} (remaining : R → Option (List ℕ))
+    (contents : W → Option (List ℕ)) (old new : Link R W)
+    (IsMeant : List ℕ → List ℕ → Type 0) : Type 0 where
+  pub read : List ℕ
+  pub written : List ℕ
+  pub consumed : Consumes (remaining old.reader) (remaining new.reader) read
+  pub appended : Appends (contents old.writer) (contents new.writer) written
+  pub meant : IsMeant read written
+
+-- a packet with this payload
+abbrev pub IsPayload : List ℕ → Received → Type 0
+IsPayload payload (Packet bytes) = bytes.items ≡ payload
+IsPayload payload _ = ⊥
+
+-- What is asked on a link, after packets that are no good, each of which is answered by an error
+-- (`EINVAL`, 22).
+pub data Requests {R W : Type 0} (remaining : R → Option (List ℕ))
+    (contents : W → Option (List ℕ)) (payload : List ℕ) : Link R W → Link R W → Type 0 where
+  Asks : (old new : Link R W) (asked : Received) → IsPayload payload asked
+      → Exchanges remaining contents old new (Receives old.acknowledges old.last.items asked)
+      → Requests remaining contents payload old new
+  Refuses : (old mid next new : Link R W)
+      → Exchanges remaining contents old mid (Receives old.acknowledges old.last.items Bad)
+      → next.reader ≡ mid.reader
+      → Appends (contents mid.writer) (contents next.writer) (packet (codes "E16"))
+      → Requests remaining contents payload next new
+      → Requests remaining contents payload old new

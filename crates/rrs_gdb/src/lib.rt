@@ -32,7 +32,7 @@ pub use forward::{ForwardEnd, ForwardReason, go_forward};
 pub use framing::{PacketError, decode, encode, push_bytes, push_hex};
 pub use link::{Link, LinkError, Received};
 pub use numbers::{address_and_length, behind, cut, cut_or_all, number_of, place_and_bytes};
-pub use queries::{BAD_ADDRESS, INVALID, NO_MEMORY, push_part};
+pub use queries::{BAD_ADDRESS, INVALID, NO_MEMORY, answer_of, push_part};
 pub use registers::{
     REGISTERS, push_register, push_registers, push_word, register_value, write_register,
     write_registers,

@@ -1,9 +1,10 @@
 //! The two streams of a session.
 
-ghost use Rattle.std.specs.Prelude.{◌≡◌, OnOk, IfOk, codes, false, true};
-ghost use Rattle.std.specs.Io.KnownBytes.{Appends};
-ghost use Rattle.rrs_gdb.specs.Packets.{IsMeaning, packet};
-ghost use Rattle.rrs_gdb.specs.Shown.{Prints, output_packet};
+ghost use Rattle.std.specs.Prelude.{◌≡◌, ◌≢◌, ◌∷◌, ◌++◌, ℕ, List, [], OnOk, IfOk, IfSome, MatchOption, Some, length, take, nat_lt, codes, false, true};
+ghost use Rattle.std.specs.Io.KnownBytes.{Appends, Consumes};
+ghost use Rattle.rrs_gdb.specs.declared.link.Received.{Received};
+ghost use Rattle.rrs_gdb.specs.Packets.{before, ComesTo, IsFrame, IsMeaning, Receives, packet, since_last};
+ghost use Rattle.rrs_gdb.specs.Shown.{Exchanges, Prints, output_packet};
 
 use crate::framing::{PacketError, decode, encode, push_bytes};
 use std::alloc::{AllocError, AllocFailed, Global};
@@ -65,7 +66,12 @@ pub struct Link<R, W> {
 
 impl<R, W> Link<R, W> {
     /// The two streams, on which packets are acknowledged.
-    pub fn new(alloc: Global, reader: R, writer: W) -> Link<R, W> {
+    pub fn new(alloc: Global, reader: R, writer: W) -> Link<R, W>
+        ensures acknowledges { result.acknowledges ≡ true }
+        ensures last { result.last.items ≡ [] }
+        ensures reader { result.reader ≡ reader }
+        ensures writer { result.writer ≡ writer }
+    {
         Link {
             alloc,
             reader,
@@ -77,7 +83,10 @@ impl<R, W> Link<R, W> {
 }
 
 /// The next byte of a reader, if it has one. A read that fails is an end.
-fn next_byte<R: Read>(reader: &mut R) -> Option<u8> {
+fn next_byte<R: Read>(reader: &mut R) -> Option<u8>
+    ensures { IfSome result (λ byte.
+        Consumes (R.remaining reader.old) (R.remaining reader.new) (byte ∷ [])) }
+{
     let mut byte = [0_u8; 1];
     match reader.read(&mut byte) {
         Ok(1) => Some(byte[0]),
@@ -97,15 +106,24 @@ struct Frame {
 }
 
 /// The two digits of a packet.
-fn read_digits<R: Read>(reader: &mut R) -> Option<[u8; 2]> {
+fn read_digits<R: Read>(reader: &mut R) -> Option<[u8; 2]>
+    ensures { IfSome result (λ digits.
+        Consumes (R.remaining reader.old) (R.remaining reader.new) digits) }
+{
     let high = next_byte(reader)?;
     let low = next_byte(reader)?;
     Some([high, low])
 }
 
-/// The bytes of a packet after its `$`, from a reader; `None` at the end of the input. Of a packet
-/// that is too long the rest is skipped, and a `$` begins another one.
-fn read_frame<R: Read>(alloc: Global, reader: &mut R) -> Result<Option<Frame>, AllocError> {
+/// The bytes of a packet after its `$` and up to its `#`, which is read too, and whether there were
+/// more than a packet may have; `None` at the end of the input. A `$` begins another packet.
+fn read_bytes<R: Read>(alloc: Global, reader: &mut R) -> Result<Option<(Vec<u8>, bool)>, AllocError>
+    ensures { IfOk result (λ found. IfSome found (λ kept. (bytes : List ℕ)
+        × Consumes (R.remaining reader.old) (R.remaining reader.new) (bytes ++ 35 ∷ [])
+        × (before 35 bytes ≡ bytes)
+        × (kept.0.items ≡ take 16384 (since_last 36 [] bytes))
+        × (kept.1 ≡ nat_lt 16384 (length (since_last 36 [] bytes))))) }
+{
     let mut bytes = Vec::new(alloc);
     let mut is_long = false;
     for _ in 0..u64::MAX {
@@ -113,7 +131,7 @@ fn read_frame<R: Read>(alloc: Global, reader: &mut R) -> Result<Option<Frame>, A
             return Ok(None);
         };
         match byte {
-            b'#' => break,
+            b'#' => return Ok(Some((bytes, is_long))),
             b'$' => {
                 bytes.clear();
                 is_long = false;
@@ -122,6 +140,17 @@ fn read_frame<R: Read>(alloc: Global, reader: &mut R) -> Result<Option<Frame>, A
             _ => is_long = true,
         }
     }
+    Ok(None)
+}
+
+/// A packet after its `$`, from a reader; `None` at the end of the input.
+fn read_frame<R: Read>(alloc: Global, reader: &mut R) -> Result<Option<Frame>, AllocError>
+    ensures { IfOk result (λ found. IfSome found (λ frame. (read : List ℕ)
+        × Consumes (R.remaining reader.old) (R.remaining reader.new) read × IsFrame read frame)) }
+{
+    let Some((bytes, is_long)) = read_bytes(alloc, reader)? else {
+        return Ok(None);
+    };
     match read_digits(reader) {
         Some(digits) => Ok(Some(Frame {
             bytes,
@@ -230,7 +259,13 @@ impl<R: Read, W: Write> Link<R, W> {
     }
 
     /// What comes after a `$`; `None` where it is asked for again.
-    fn packet(&mut self) -> Result<Option<Received>, LinkError> {
+    fn packet(&mut self) -> Result<Option<Received>, LinkError>
+        ensures received { IfOk result (λ found. found ≢ Some Received.End
+            → Exchanges R.remaining W.contents self.old self.new (λ read written. ComesTo
+            self.old.acknowledges self.old.last.items found (36 ∷ read) written)) }
+        ensures last { self.new.last ≡ self.old.last }
+        ensures acknowledges { self.new.acknowledges ≡ self.old.acknowledges }
+    {
         let Some(frame) = read_frame(self.alloc, &mut self.reader)? else {
             return Ok(Some(Received::End));
         };
@@ -241,7 +276,13 @@ impl<R: Read, W: Write> Link<R, W> {
 
     /// What comes of a byte before a packet: a `$` begins one, a `-` has the last one sent again,
     /// and another is skipped.
-    fn begin(&mut self, byte: u8) -> Result<Option<Received>, LinkError> {
+    fn begin(&mut self, byte: u8) -> Result<Option<Received>, LinkError>
+        ensures received { IfOk result (λ found. found ≢ Some Received.End
+            → Exchanges R.remaining W.contents self.old self.new (λ read written. ComesTo
+            self.old.acknowledges self.old.last.items found (byte ∷ read) written)) }
+        ensures last { self.new.last ≡ self.old.last }
+        ensures acknowledges { self.new.acknowledges ≡ self.old.acknowledges }
+    {
         match byte {
             b'$' => self.packet(),
             b'-' => {
@@ -253,15 +294,21 @@ impl<R: Read, W: Write> Link<R, W> {
     }
 
     /// The next packet. What lies between two packets is skipped; a `-` there has the last packet
-    /// sent again.
+    /// sent again. A read that fails is the end of the input.
     ///
-    /// Which payload a packet has is proved (`decode`). That the bytes that are read come to it as
-    /// they are, and none is left out, is tested alone (`examples/gdb/check`).
+    /// The clauses: the packet is that of the bytes that were read, and what is written meanwhile
+    /// are acknowledgments and the last packet, as they were asked for (`received`).
     ///
     /// # Errors
     ///
     /// Out of memory, and a write that fails.
-    pub fn receive(&mut self) -> Result<Received, LinkError> {
+    pub fn receive(&mut self) -> Result<Received, LinkError>
+        ensures received { IfOk result (λ received. received ≢ Received.End
+            → Exchanges R.remaining W.contents self.old self.new (Receives
+            self.old.acknowledges self.old.last.items received)) }
+        ensures last { self.new.last ≡ self.old.last }
+        ensures acknowledges { self.new.acknowledges ≡ self.old.acknowledges }
+    {
         for _ in 0..u64::MAX {
             let Some(byte) = next_byte(&mut self.reader) else {
                 return Ok(Received::End);

@@ -1,6 +1,6 @@
 //! The packets that ask, and those that set how the session goes on.
 
-ghost use Rattle.std.specs.Prelude.{◌≡◌, ◌≢◌, ◌++◌, ℕ, List, [], false, true, Ok, IsOk, IfOk, IfErr, MatchOption, OnOk, OnErr, codes, string_bytes, if◌then◌else◌};
+ghost use Rattle.std.specs.Prelude.{◌≡◌, ◌≢◌, ◌^◌, ◌++◌, ℕ, nat_lt, List, [], false, true, Ok, IsOk, IfOk, IfErr, MatchOption, OnOk, OnErr, codes, string_bytes, if◌then◌else◌};
 ghost use Rattle.std.specs.Bool.{OnTrue, OnFalse};
 ghost use Rattle.std.specs.Fmt.{digits};
 ghost use Rattle.hex.specs.Hex.{decode_of};
@@ -8,7 +8,7 @@ ghost use Rattle.rrs_gdb.specs.declared.queries.Setting.{Setting};
 ghost use Rattle.rrs_gdb.specs.declared.state.Caught.{Caught};
 ghost use Rattle.rrs_gdb.specs.Packets.{AreNumbers, IsDecimal, before, behind};
 ghost use Rattle.rrs_gdb.specs.Shown.{text_of};
-ghost use Rattle.rrs_gdb.specs.Sessions.{Accepts, BreaksKept, Catches, Monitors, SessionKept, Sets, SetsOrTells, ShowsPart, on_or_off, setting_line, value_text, word_of};
+ghost use Rattle.rrs_gdb.specs.Sessions.{Accepts, BreaksKept, Catches, Monitors, SessionKept, Sets, SetsOrTells, ShowsPart, Tells, on_or_off, setting_line, value_text, word_of};
 
 use crate::framing::push_bytes;
 use crate::numbers::{address_and_length, behind, cut, cut_or_all, decimal_of, number_of};
@@ -46,7 +46,13 @@ pub fn push_part(reply: &mut Vec<u8>, object: &[u8], place: &[u8]) -> Result<(),
 }
 
 /// Answers `qXfer`, after that word: the description of the target, and the path of the program.
-fn transfer(state: &SessionState<'_>, reply: &mut Vec<u8>, asked: &[u8]) -> Result<(), AllocError> {
+fn transfer(state: &SessionState<'_>, reply: &mut Vec<u8>, asked: &[u8]) -> Result<(), AllocError>
+    ensures target { (place : List ℕ) → asked.now ≡ codes "features:read:target.xml:" ++ place
+        → OnOk result (ShowsPart TARGET.now place reply.old.items reply.new.items) }
+    ensures path { (rest : List ℕ) → asked.now ≡ codes "exec-file:read:" ++ rest
+        → OnOk result (ShowsPart state.now.path.now (behind 58 rest)
+        reply.old.items reply.new.items) }
+{
     if let Some(place) = behind(asked, b"features:read:target.xml:") {
         return push_part(reply, TARGET, place);
     }
@@ -226,6 +232,13 @@ fn value_of(alloc: Global, state: &SessionState<'_>, setting: Setting) -> Result
     }
 }
 
+/// Whether so many steps are more than are ever kept, 2^32.
+fn is_too_many(steps: u64) -> bool
+    ensures { result ≡ nat_lt (2 ^ 32) steps }
+{
+    steps > 1 << 32
+}
+
 /// Sets how many steps are kept, if there is memory for them.
 fn set_room(
     alloc: Global,
@@ -242,7 +255,7 @@ fn set_room(
     let Some(room) = decimal_of(argument) else {
         return Err(HELP);
     };
-    if room > 1 << 32 {
+    if is_too_many(room) {
         return Err(NO_HISTORY);
     }
     match state.set_history(alloc, room as usize) {
@@ -371,18 +384,15 @@ fn command(
     }
 }
 
-/// What is answered to a question of the session, by its word: what the stub has, the thread, the
-/// list of threads, and whether the program ran before gdb came. Nothing where it is not known.
-fn answer_of(is_extended: bool, word: &[u8]) -> &'static [u8]
+/// What is answered to a question of the session, by its word: the thread, the list of threads, and
+/// whether the program ran before gdb came. Nothing where it is not known.
+pub fn answer_of(is_extended: bool, word: &[u8]) -> &'static [u8]
     ensures thread { word.now ≡ codes "qC" → result.now ≡ codes "QC1" }
     ensures threads { word.now ≡ codes "qfThreadInfo" → result.now ≡ codes "m1" }
     ensures no_more { word.now ≡ codes "qsThreadInfo" → result.now ≡ codes "l" }
     ensures attached { word.now ≡ codes "qAttached"
         → result.now ≡ (if is_extended then codes "0" else codes "1") }
 {
-    if word == b"qSupported".as_slice() {
-        return SUPPORTED;
-    }
     if word == b"qC".as_slice() {
         return b"QC1";
     }
@@ -399,14 +409,18 @@ fn answer_of(is_extended: bool, word: &[u8]) -> &'static [u8]
 }
 
 /// Answers a question of the session.
-fn tell(state: &SessionState<'_>, reply: &mut Vec<u8>, payload: &[u8]) -> Result<(), AllocError> {
+fn tell(state: &SessionState<'_>, reply: &mut Vec<u8>, payload: &[u8]) -> Result<(), AllocError>
+    ensures tells { OnOk result (Tells TARGET.now state.now.path.now state.now.is_extended
+        payload.now reply.old.items reply.new.items) }
+{
     if let Some(asked) = behind(payload, b"qXfer:") {
         return transfer(state, reply, asked);
     }
-    push_text(
-        reply,
-        answer_of(state.is_extended, cut_or_all(payload, b':').0),
-    )
+    let word = cut_or_all(payload, b':').0;
+    if word == b"qSupported".as_slice() {
+        return push_text(reply, SUPPORTED);
+    }
+    push_text(reply, answer_of(state.is_extended, word))
 }
 
 /// Answers a packet that begins with `q`.
@@ -423,6 +437,8 @@ pub(crate) fn query(
         state.old state.new reply.old.items reply.new.items) }
     ensures kept { ((digits : List ℕ) → payload.now ≢ codes "qRcmd," ++ digits)
         → state.new ≡ state.old }
+    ensures tells { OnOk result (Tells TARGET.now state.old.path.now state.old.is_extended
+        payload.now reply.old.items reply.new.items) }
 {
     if let Some(digits) = behind(payload, b"qRcmd,") {
         return command(alloc, state, reply, digits);

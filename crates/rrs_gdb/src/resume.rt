@@ -52,12 +52,14 @@ fn send_new<R: Read, W: Write>(
 ) -> Result<(), LinkError>
     ensures places { PlacesKept state.old state.new }
     ensures around { (e : Recording) → around state.new e ≡ around state.old e }
+    ensures steps { state.new.steps ≡ state.old.steps }
     ensures sent { OnOk result (Prints W.contents link.old link.new
         (drop (state.old.sent - state.old.made) bytes.now)) }
     ensures made { state.old.made + length bytes.now < 2 ^ 64
         → state.new.made ≡ state.old.made + length bytes.now }
     ensures known { state.old.made + length bytes.now < 2 ^ 64 → state.new.sent - state.new.made
         ≡ state.old.sent - state.old.made - length bytes.now }
+    ensures acknowledges { link.new.acknowledges ≡ link.old.acknowledges }
 {
     let known = state.sent.saturating_sub(state.made);
     state.made = state.made.saturating_add(bytes.len() as u64);
@@ -76,11 +78,13 @@ fn send_made<R: Read, W: Write>(
 ) -> Result<(), LinkError>
     ensures places { PlacesKept state.old state.new }
     ensures around { (e : Recording) → around state.new e ≡ around state.old e }
+    ensures steps { state.new.steps ≡ state.old.steps }
     ensures taken { OnOk result (OutputTaken environment.old environment.new) }
     ensures sent { state.old.made + length environment.old.output.items
         + length environment.old.errors.items < 2 ^ 64 → OnOk result (Prints W.contents link.old link.new
         (drop (state.old.sent - state.old.made)
         (environment.old.output.items ++ environment.old.errors.items))) }
+    ensures acknowledges { link.new.acknowledges ≡ link.old.acknowledges }
 {
     send_new(state, link, &environment.output)?;
     environment.output.clear();
@@ -99,6 +103,7 @@ fn stop_before(state: &mut SessionState<'_>, number: u32) -> Option<Stop>
         (stopped_at (around state.new e) at)) }
     ensures made { state.new.made ≡ state.old.made }
     ensures sent { state.new.sent ≡ state.old.sent }
+    ensures steps { state.new.steps ≡ state.old.steps }
 {
     if state.catches(number) && !state.has_entered {
         state.has_entered = true;
@@ -120,6 +125,7 @@ fn stop_behind(state: &mut SessionState<'_>, number: u32, pc: u32) -> Option<Sto
     ensures stop { MatchOption result
         ((state.old.has_entered ≡ false) × ¬ Contains state.old.breaks.stops.items pc)
         (λ at. StopsBehind state.old.has_entered state.old.breaks.stops.items number pc at) }
+    ensures steps { state.new.steps ≡ state.old.steps }
 {
     if state.has_entered {
         state.has_entered = false;
@@ -154,6 +160,10 @@ fn make_call<M: Memory, R: Read, W: Write>(
         (λ at. IsAfterCall at → PrintsCall W.contents state.old.made state.old.sent
         environment.old (state_in M.bytes M.writable executor.old)
         (state_in M.bytes M.writable executor.new) link.old link.new)) }
+    ensures counted { state.old.steps < 2 ^ 64 - 1 → IfOk result (λ stop. MatchOption stop
+        (state.new.steps ≡ state.old.steps + 1)
+        (λ at. IsAfterCall at → state.new.steps ≡ state.old.steps + 1)) }
+    ensures acknowledges { link.new.acknowledges ≡ link.old.acknowledges }
 {
     let number = executor.hart_state.read_register(17);
     if let Some(stop) = stop_before(state, number) {
@@ -247,6 +257,7 @@ pub(crate) fn forward<M: Memory, G: StopRunner<M>, R: Read, W: Write>(
         (stopped_at (around state.new environment.new) at)
         (state_in M.bytes M.writable executor.new)
         limit (around state.old environment.old) (state_in M.bytes M.writable executor.old)) }
+    ensures acknowledges { link.new.acknowledges ≡ link.old.acknowledges }
 {
     let mut left = limit;
     'legs: while left > 0 {

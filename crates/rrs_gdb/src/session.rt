@@ -1,7 +1,8 @@
 //! The packets of a session, and their answers.
 
-ghost use Rattle.std.specs.Prelude.{◌≡◌, ◌≢◌, ◌⊎◌, ◌∷◌, ◌++◌, [], ℕ, ◌<◌, ◌≤◌, ◌-◌, ◌^◌, Bool, List, Ok, Some, IsOk, IsTrue, IfOk, IfSome, IfNone, MatchOption, OnOk, drop, length, slice_index, codes, map, string_bytes, true};
+ghost use Rattle.std.specs.Prelude.{◌≡◌, ◌≢◌, ◌⊎◌, ◌∷◌, ◌++◌, [], ℕ, ◌<◌, ◌≤◌, ◌-◌, ◌^◌, Bool, List, Ok, Some, None, IsOk, IsTrue, IfOk, IfSome, IfNone, MatchOption, OnOk, drop, length, slice_index, codes, map, string_bytes, false, true};
 ghost use Rattle.std.specs.Bool.{OnTrue, OnFalse};
+ghost use Rattle.std.specs.Io.KnownBytes.{Appends};
 ghost use Rattle.std.specs.Str.{IsUtf8};
 ghost use Rattle.hex.specs.Hex.{decode_of, decode_sized};
 ghost use Rattle.rrs_lib.specs.Bytes.{ByteMap};
@@ -10,10 +11,11 @@ ghost use Rattle.rrs_lib.specs.Executor.{state_in};
 ghost use Rattle.rrs_linux.specs.Recording.{Recording};
 ghost use Rattle.rrs_gdb.specs.declared.session.Going.{Going};
 ghost use Rattle.rrs_gdb.specs.declared.session.Next.{Next};
+ghost use Rattle.rrs_gdb.specs.declared.session.SessionEnd.{SessionEnd};
 ghost use Rattle.rrs_gdb.specs.Answers.{BeginsBy, Goes, HasSubject, IsDone, Leaves, Means, Sets, Shows, moment};
-ghost use Rattle.rrs_gdb.specs.Sessions.{letter, Acts, BreaksKept, EndsBy, EndsNone, Monitors, BySignal, HasNoSignal, HasSignal, IsSignal, Signals, BreaksNone, GoesBy, GoesOnFrom, GoesOnOrStays, ForgetsOrStays, HasAction, HasLetter, HasRegisters, Most, Resumes, SetsRegisters, around, asked_by, has_ended, one_step, up_to, ChangesMemory, ChangesNone, ChangesRegister, IsError, MemoryKept, PlacesKept, RegistersKept, RemovesBreak, RunsNone, SessionGoesBack, SessionKept, SettingsKept, IsChangeable, SetsBreak, SetsBytes, SetsMemory, SetsRegister, ShowsBytes, ShowsMemory, ShowsRegister};
-ghost use Rattle.rrs_gdb.specs.Packets.{AreTexts, IsNumber, number, before, behind};
-ghost use Rattle.rrs_gdb.specs.Shown.{registers_text, stop_text, with_register, word_at};
+ghost use Rattle.rrs_gdb.specs.Sessions.{letter, Acts, CatchesOrStays, Manages, NamedBy, Tells, end_behind, BreaksKept, EndsBy, EndsNone, Monitors, BySignal, HasNoSignal, HasSignal, IsSignal, Signals, BreaksNone, GoesBy, GoesOnFrom, GoesOnOrStays, ForgetsOrStays, HasAction, HasLetter, HasRegisters, Most, Resumes, SetsRegisters, around, asked_by, has_ended, one_step, up_to, ChangesMemory, ChangesNone, ChangesRegister, IsError, MemoryKept, PlacesKept, RegistersKept, RemovesBreak, RunsNone, SessionGoesBack, SessionKept, SettingsKept, IsChangeable, SetsBreak, SetsBytes, SetsMemory, SetsRegister, ShowsBytes, ShowsMemory, ShowsRegister};
+ghost use Rattle.rrs_gdb.specs.Packets.{AreTexts, IsNumber, number, before, behind, packet};
+ghost use Rattle.rrs_gdb.specs.Shown.{Requests, registers_text, stop_text, with_register, word_at};
 
 use crate::breaks::{Breaks, break_of};
 use crate::contents::{read_memory, write_memory};
@@ -25,6 +27,7 @@ use crate::registers::{push_register, push_registers, word_at, write_register, w
 use crate::resume::{INTERRUPTED, TRAPPED, backward, forward};
 use crate::runner::StopRunner;
 use crate::state::{SessionState, Stop, push_stop, push_text};
+use crate::target::TARGET;
 use hex::{FromHex, FromHexError};
 use rrs_lib::instruction_executor::InstructionExecutor;
 use rrs_lib::{HartState, Memory};
@@ -546,6 +549,7 @@ fn go<M: Memory, G: StopRunner<M>, R: Read, W: Write>(
     ensures told { OnOk result (reply.new.items ≡ reply.old.items ++ stop_text state.new.stop) }
     ensures error { OnOk result (IsError reply.old.items reply.new.items → ⊥) }
     ensures reply { IfOk result (λ next. next ≡ Next.Reply) }
+    ensures acknowledges { link.new.acknowledges ≡ link.old.acknowledges }
 {
     if state.has_ended() {
         return tell_stop(link.alloc, reply, state.stop);
@@ -619,6 +623,7 @@ fn go_from<M: Memory, G: StopRunner<M>, R: Read, W: Write>(
         (moment state.new environment.new (state_in M.bytes M.writable executor.new)
         reply.new.items)) }
     ensures reply { IfOk result (λ next. next ≡ Next.Reply) }
+    ensures acknowledges { link.new.acknowledges ≡ link.old.acknowledges }
 {
     let Some((going, address)) = going_of(payload) else {
         return refuse(reply);
@@ -651,6 +656,7 @@ fn go_on<M: Memory, G: StopRunner<M>, R: Read, W: Write>(
         (around state.old environment.old) (state_in M.bytes M.writable executor.old)
         (around state.new environment.new) (state_in M.bytes M.writable executor.new)
         reply.old.items reply.new.items) }
+    ensures acknowledges { link.new.acknowledges ≡ link.old.acknowledges }
 {
     let (action, _others) = cut_or_all(actions, b';');
     let (action, _thread) = cut_or_all(action, b':');
@@ -709,8 +715,9 @@ fn run_again(
         → AreTexts texts (behind 59 text.now) → (next ≡ Next.Restart)
         × AreTexts (map string_bytes state.new.arguments.items) (behind 59 text.now)
         × (state.new.has_arguments ≡ true) × (state.new.owes_stop ≡ true)) }
-    ensures refused { OnOk result (((texts : List (List ℕ)) → ¬ AreTexts texts (behind 59 text.now))
-        → IsError reply.old.items reply.new.items) }
+    ensures refused { IfOk result (λ next.
+        ((texts : List (List ℕ)) → ¬ AreTexts texts (behind 59 text.now))
+        → IsError reply.old.items reply.new.items × (next ≡ Next.Reply)) }
 {
     let (_name, arguments) = cut_or_all(text, b';');
     let Some(arguments) = arguments_of(alloc, arguments)? else {
@@ -732,6 +739,8 @@ fn ask(
 ) -> Result<Next, AllocError>
     ensures kept { SessionKept state.old state.new }
     ensures places { PlacesKept state.old state.new }
+    ensures named { IfOk result (λ next. NamedBy payload.now next state.old state.new
+        reply.old.items reply.new.items) }
 {
     if let Some(words) = behind(payload, b"vRun;") {
         return run_again(alloc, state, reply, words);
@@ -746,7 +755,11 @@ fn ask(
 }
 
 /// What is told of `vKill` and `vCont?`.
-fn told_of(payload: &[u8], is_kill: bool) -> &'static [u8] {
+fn told_of(payload: &[u8], is_kill: bool) -> &'static [u8]
+    ensures kill { is_kill ≡ true → result.now ≡ codes "OK" }
+    ensures actions { is_kill ≡ false → payload.now ≡ codes "vCont?"
+        → result.now ≡ codes "vCont;c;C;s;S" }
+{
     if is_kill {
         return b"OK";
     }
@@ -779,6 +792,9 @@ fn act<M: Memory, G: StopRunner<M>, R: Read, W: Write>(
         (around state.old environment.old) (state_in M.bytes M.writable executor.old)
         (around state.new environment.new) (state_in M.bytes M.writable executor.new)
         reply.old.items reply.new.items) }
+    ensures named { IfOk result (λ next. NamedBy payload.now next state.old state.new
+        reply.old.items reply.new.items) }
+    ensures acknowledges { link.new.acknowledges ≡ link.old.acknowledges }
 {
     if let Some(actions) = behind(payload, b"vCont;") {
         return go_on(runner, state, executor, environment, link, reply, actions);
@@ -793,7 +809,15 @@ fn set<R, W>(
     reply: &mut Vec<u8>,
     text: &[u8],
 ) -> Result<(), AllocError>
-    ensures { SessionKept state.old state.new }
+    ensures kept { SessionKept state.old state.new }
+    ensures silences { text.now ≡ codes "StartNoAckMode" → OnOk result
+        ((reply.new.items ≡ reply.old.items ++ codes "OK") × (link.new.acknowledges ≡ false)) }
+    ensures acknowledges { text.now ≢ codes "StartNoAckMode"
+        → link.new.acknowledges ≡ link.old.acknowledges }
+    ensures catches { (asked : List ℕ) → text.now ≡ codes "CatchSyscalls:" ++ asked
+        → OnOk result (CatchesOrStays asked state.old state.new
+        reply.old.items reply.new.items) }
+    ensures writer { link.new.writer ≡ link.old.writer }
 {
     if text == b"StartNoAckMode".as_slice() {
         link.acknowledges = false;
@@ -859,6 +883,34 @@ fn next_behind(payload: &[u8]) -> Next
     }
 }
 
+/// What is answered to a packet that is about the session alone.
+fn tell_session<R, W>(
+    state: &mut SessionState<'_>,
+    link: &mut Link<R, W>,
+    reply: &mut Vec<u8>,
+    payload: &[u8],
+) -> Result<(), AllocError>
+    ensures kept { SessionKept state.old state.new }
+    ensures stopped { payload.now ≡ codes "?" → OnOk result
+        (reply.new.items ≡ reply.old.items ++ stop_text state.old.stop) }
+    ensures manages { OnOk result (Manages payload.now state.old state.new
+        reply.old.items reply.new.items link.old.acknowledges link.new.acknowledges) }
+    ensures writer { link.new.writer ≡ link.old.writer }
+{
+    if payload == b"!".as_slice() {
+        state.is_extended = true;
+        return push_text(reply, b"OK");
+    }
+    if let Some(text) = behind(payload, b"Q") {
+        return set(state, link, reply, text);
+    }
+    match payload {
+        [b'?'] => push_stop(link.alloc, reply, state.stop),
+        [b'H' | b'T' | b'D', ..] => push_text(reply, b"OK"),
+        _ => Ok(()),
+    }
+}
+
 /// Answers a packet that is about the session alone.
 fn manage<R, W>(
     state: &mut SessionState<'_>,
@@ -869,16 +921,13 @@ fn manage<R, W>(
     ensures kept { SessionKept state.old state.new }
     ensures stopped { payload.now ≡ codes "?" → OnOk result
         (reply.new.items ≡ reply.old.items ++ stop_text state.old.stop) }
+    ensures manages { OnOk result (Manages payload.now state.old state.new
+        reply.old.items reply.new.items link.old.acknowledges link.new.acknowledges) }
+    ensures writer { link.new.writer ≡ link.old.writer }
     ensures reply { EndsNone payload.now → IfOk result (λ next. next ≡ Next.Reply) }
     ensures ends { IfOk result (λ next. EndsBy payload.now next) }
 {
-    state.is_extended |= payload == b"!".as_slice();
-    match payload {
-        [b'?'] => push_stop(link.alloc, reply, state.stop)?,
-        [b'!'] | [b'H' | b'T' | b'D', ..] => push_text(reply, b"OK")?,
-        [b'Q', text @ ..] => set(state, link, reply, text)?,
-        _ => {}
-    }
+    tell_session(state, link, reply, payload)?;
     Ok(next_behind(payload))
 }
 
@@ -927,6 +976,13 @@ fn answer_by_subject<'a, M: Memory, G: StopRunner<M>, R: Read, W: Write>(
         reply.old.items)
         (moment state.new environment.new (state_in M.bytes M.writable executor.new)
         reply.new.items)) }
+    ensures tells { OnOk result (Tells TARGET.now state.old.path.now state.old.is_extended
+        payload.now reply.old.items reply.new.items) }
+    ensures named { IfOk result (λ next. NamedBy payload.now next state.old state.new
+        reply.old.items reply.new.items) }
+    ensures manages { OnOk result (Manages payload.now state.old state.new
+        reply.old.items reply.new.items link.old.acknowledges link.new.acknowledges) }
+    ensures quiet { RunsNone payload.now → link.new.writer ≡ link.old.writer }
     ensures reply { EndsNone payload.now → IfOk result (λ next. next ≡ Next.Reply) }
     ensures ends { IfOk result (λ next. EndsBy payload.now next) }
 {
@@ -1078,6 +1134,13 @@ pub fn answer_to<'a, M: Memory, G: StopRunner<M>, R: Read, W: Write>(
     ensures questions { letter payload.now ≡ 113
         → ((digits : List ℕ) → payload.now ≢ codes "qRcmd," ++ digits)
         → OnOk result (state.new ≡ state.old) }
+    ensures tells { OnOk result (Tells TARGET.now state.old.path.now state.old.is_extended
+        payload.now reply.old.items reply.new.items) }
+    ensures named { IfOk result (λ next. NamedBy payload.now next state.old state.new
+        reply.old.items reply.new.items) }
+    ensures manages { OnOk result (Manages payload.now state.old state.new
+        reply.old.items reply.new.items link.old.acknowledges link.new.acknowledges) }
+    ensures quiet { RunsNone payload.now → link.new.writer ≡ link.old.writer }
     ensures reply { EndsNone payload.now → IfOk result (λ next. next ≡ Next.Reply) }
     ensures ends { IfOk result (λ next. EndsBy payload.now next) }
 {
@@ -1085,12 +1148,17 @@ pub fn answer_to<'a, M: Memory, G: StopRunner<M>, R: Read, W: Write>(
 }
 
 /// Whether a packet has an answer.
-fn has_answer(next: Next) -> bool {
+fn has_answer(next: Next) -> bool
+    ensures yes { OnTrue result ((next ≡ Next.Reply) ⊎ (next ≡ Next.ReplyAndEnd)) }
+    ensures no { OnFalse result ((next ≡ Next.End) ⊎ (next ≡ Next.Restart)) }
+{
     matches!(next, Next::Reply | Next::ReplyAndEnd)
 }
 
 /// How the session ends after a packet, if it does.
-fn end_of(next: Next) -> Option<SessionEnd> {
+fn end_of(next: Next) -> Option<SessionEnd>
+    ensures { result ≡ end_behind next }
+{
     match next {
         Next::Reply => None,
         Next::ReplyAndEnd | Next::End => Some(SessionEnd::Ended),
@@ -1106,7 +1174,20 @@ fn answer<'a, M: Memory, G: StopRunner<M>, R: Read, W: Write>(
     environment: &mut OutputRecorder<'a>,
     link: &mut Link<R, W>,
     payload: &[u8],
-) -> Result<Option<SessionEnd>, LinkError> {
+) -> Result<Option<SessionEnd>, LinkError>
+    ensures stopped { payload.now ≡ codes "?" → OnOk result (Appends (W.contents link.old.writer)
+        (W.contents link.new.writer) (packet (stop_text state.old.stop))) }
+    ensures shows { payload.now ≡ codes "g" → OnOk result (Appends (W.contents link.old.writer)
+        (W.contents link.new.writer)
+        (packet (registers_text (state_in M.bytes M.writable executor.old)))) }
+    ensures answered { RunsNone payload.now → EndsNone payload.now → OnOk result ((reply : List ℕ)
+        × Appends (W.contents link.old.writer) (W.contents link.new.writer) (packet reply)) }
+    ensures goes_on { EndsNone payload.now → IfOk result (λ end. end ≡ None) }
+    ensures ends { (letter payload.now ≡ 68) ⊎ (payload.now ≡ codes "k")
+        → IfOk result (λ end. end ≡ Some SessionEnd.Ended) }
+    ensures restarts { letter payload.now ≡ 82
+        → IfOk result (λ end. end ≡ Some SessionEnd.Restart) }
+{
     let mut reply = Vec::new(link.alloc);
     let next = answer_to(
         runner,
@@ -1125,7 +1206,10 @@ fn answer<'a, M: Memory, G: StopRunner<M>, R: Read, W: Write>(
 
 /// The payload of the next packet, if there is one. A packet that is no good is answered by an
 /// error.
-fn next_payload<R: Read, W: Write>(link: &mut Link<R, W>) -> Result<Option<Vec<u8>>, LinkError> {
+fn next_payload<R: Read, W: Write>(link: &mut Link<R, W>) -> Result<Option<Vec<u8>>, LinkError>
+    ensures received { IfOk result (λ found. IfSome found (λ payload.
+        Requests R.remaining W.contents payload.items link.old link.new)) }
+{
     for _ in 0..u64::MAX {
         match link.receive()? {
             Received::Packet(payload) => return Ok(Some(payload)),
@@ -1140,7 +1224,12 @@ fn next_payload<R: Read, W: Write>(link: &mut Link<R, W>) -> Result<Option<Vec<u
 fn send_stop<R: Read, W: Write>(
     state: &mut SessionState<'_>,
     link: &mut Link<R, W>,
-) -> Result<(), LinkError> {
+) -> Result<(), LinkError>
+    ensures owed { state.old.owes_stop ≡ true → OnOk result (Appends (W.contents link.old.writer)
+        (W.contents link.new.writer) (packet (stop_text state.old.stop))) }
+    ensures none { state.old.owes_stop ≡ false → (link.new ≡ link.old) × IsOk result }
+    ensures told { state.new ≡ record state.old { owes_stop = false } }
+{
     if !state.owes_stop {
         return Ok(());
     }

@@ -1,6 +1,6 @@
 //! What a session keeps beside the machine.
 
-ghost use Rattle.std.specs.Prelude.{◌≡◌, ◌++◌, ◌∷◌, [], false, IfOk, OnErr, OnOk};
+ghost use Rattle.std.specs.Prelude.{◌≡◌, ◌^◌, ◌++◌, ◌∷◌, [], true, false, IfOk, OnErr, OnOk};
 ghost use Rattle.std.specs.Bool.{OnTrue, OnFalse};
 ghost use Rattle.std.specs.Fmt.{digits};
 ghost use Rattle.rrs_history.specs.Histories.{changes, room as room_of};
@@ -31,7 +31,11 @@ pub struct Settings {
 impl Settings {
     /// What holds where nothing is set: 10,000,000,000 steps, a history of 1,000,000, and a stop at
     /// the exit.
-    pub fn new() -> Settings {
+    pub fn new() -> Settings
+        ensures limit { result.limit ≡ 10 ^ 10 }
+        ensures history { result.history ≡ 10 ^ 6 }
+        ensures stops { result.stops_at_exit ≡ true }
+    {
         Settings {
             limit: 10_000_000_000,
             history: 1_000_000,
@@ -143,7 +147,9 @@ impl<'a> SessionState<'a> {
         ensures program { IfOk result (λ state. (state.path.now ≡ path.now)
             × (state.input.now ≡ input.now)) }
         ensures replies { IfOk result (λ state. (state.owes_stop ≡ false)
-            × (state.has_arguments ≡ false)) }
+            × (state.is_extended ≡ false) × (state.has_arguments ≡ false)
+            × (state.arguments.items ≡ [])) }
+        ensures output { IfOk result (λ state. (state.made ≡ 0) × (state.sent ≡ 0)) }
     {
         Ok(SessionState {
             breaks: Breaks::new(alloc),
@@ -174,7 +180,7 @@ impl<'a> SessionState<'a> {
     /// The history is empty (`emptied`). What gdb asked for stays: breakpoints, watchpoints,
     /// settings and calls that are caught (`kept`). The program has not ended: it stands as one
     /// that was trapped before its first step, and nothing was told of the call at its pc
-    /// (`goes_on`, `around`). No steps are counted (`counted`).
+    /// (`goes_on`, `around`). No steps are counted, and no output (`counted`, `output`).
     pub fn begin_again(&mut self)
         ensures emptied { changes self.new.history ≡ [] }
         ensures kept { PlacesKept self.old self.new }
@@ -182,6 +188,7 @@ impl<'a> SessionState<'a> {
         ensures around { (environment : Recording) → around self.new environment
             ≡ stopped_at (forgotten (around self.old environment)) (Stop.Signal 5) }
         ensures counted { self.new.steps ≡ 0 }
+        ensures output { (self.new.made ≡ 0) × (self.new.sent ≡ 0) }
     {
         self.forget();
         self.steps = 0;

@@ -1,6 +1,6 @@
 -- What is said of an answer, by the subject of the packet.
 use Rattle.std.proofs.Common.{refl}
-use Rattle.rrs_board_gdb.proofs.AnswerLemmas.{ends_inspected, ends_named, ends_run, leaves_inspected, leaves_named, leaves_run, leaves_session, means_inspected, means_named_ok, means_run, means_session}
+use Rattle.rrs_board_gdb.proofs.AnswerLemmas.{ends_inspected, ends_named, ends_run, leaves_inspected, leaves_named, leaves_run, leaves_session, means_inspected, means_named_ok, means_run, tells_run, means_session}
 use Rattle.rrs_board_gdb.proofs.session.answer_by_subject.Goals as goal
 
 pub returns-in-Some-clause-leaves : goal.returns-in-Some-clause-leaves
@@ -54,3 +54,6 @@ returns-in-Run-clause-ends g c = ends_run c.go_on.result _ c.in-Run.ensures c.go
 
 pub returns-in_ok-inspect-in-Inspected-clause-ends : goal.returns-in_ok-inspect-in-Inspected-clause-ends
 returns-in_ok-inspect-in-Inspected-clause-ends g c = ends_inspected _ c.in-Inspected.ensures
+
+pub returns-in-Run-clause-tells : goal.returns-in-Run-clause-tells
+returns-in-Run-clause-tells g c = tells_run c.go_on.result _ _ _ c.in-Run.ensures

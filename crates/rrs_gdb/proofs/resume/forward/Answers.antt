@@ -75,4 +75,5 @@ legs-preserved g c =
           (rw c.in_default.is at c.in_ok-stop.ensures.made))
           (subst (λ (n : ℕ). GoesOn (asked_by c.args.state.now) c.args.at_limit b t n
           after (state c.make_call.new.executor)) left later));
+      acknowledges = c.make_call.ensures.acknowledges ∙ i.acknowledges;
     }

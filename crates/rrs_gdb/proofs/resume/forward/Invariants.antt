@@ -1,3 +1,4 @@
+use Rattle.std.proofs.Common.{◌≡◌}
 use Rattle.rrs_lib.specs.Machine.{State}
 use Rattle.rrs_lib.specs.Executor.{state_in}
 use Rattle.rrs_gdb.specs.Sessions.{Around, GoesOn, PlacesKept, around, asked_by}
@@ -13,6 +14,7 @@ invariant-legs g l =
       goes_on : (b : Around) (t : State)
           → GoesOn asked l.fn.at_limit b t l.left (around l.state l.environment) (state l.executor)
           → GoesOn asked l.fn.at_limit b t l.fn.limit (around l.fn.state l.fn.environment) (state l.fn.executor);
+      acknowledges : l.link.acknowledges ≡ l.fn.link.acknowledges;
     }
 
 abbrev pub decreases-legs : goal.decreases-legs

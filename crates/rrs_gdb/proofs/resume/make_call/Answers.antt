@@ -87,3 +87,8 @@ returns-in-None-clause-printed g c =
     let made = c.in-Ok.ensures.served.these in
     printed_by_all c.stop_behind.result _ (prints_call g.W.Write.contents _ _ _ _ made.0 c.in-Ok.end _ _ _ _ _ _ _
     c.stop_before.ensures.made c.stop_before.ensures.sent made.1 c.in_ok-send_made.ensures.sent)
+
+pub returns-in-Some-clause-counted : goal.returns-in-Some-clause-counted
+returns-in-Some-clause-counted g c = λ _ after.
+    let e = c.args.environment.now in
+    absurd (none_before _ _ (around c.stop_before.new.state e) _ c.in-Some.stop (c.in-Some.ensures.stop e) after)

@@ -1,4 +1,4 @@
-use Rattle.std.proofs.Common.{List, ◌≡◌, ◌+◌, [], refl, sym, subst, arith, append-nil, ◌++◌, ℕ}
+use Rattle.std.proofs.Common.{List, ◌≡◌, ◌+◌, ◌∙◌, [], refl, sym, subst, arith, append-nil, ◌++◌, ℕ}
 use Rattle.rrs_gdb.specs.Shown.{Prints}
 use Rattle.rrs_board_gdb.specs.Going.{debugged, Debugged, GoesTo, PassingSteps}
 use Rattle.rrs_board_gdb.proofs.GoingLemmas.{leg_passes, leg_leads}
@@ -10,6 +10,7 @@ legs-init g c =
     record {
       within = omega arith;
       emptied = c.in_ok-send.ensures.emptied;
+      acknowledges = c.send.ensures.acknowledges;
       made = (
         [],
         (c.send.ensures.kept, refl),
@@ -28,6 +29,7 @@ legs-preserved g c =
     record {
       within = omega (arith, c.legs-test.true, c.min.ensures, c.in_ok-end.ensures.within);
       emptied = c.in_ok-send-2.ensures.emptied;
+      acknowledges = c.send-in-legs.ensures.acknowledges ∙ c.legs.invariant.acknowledges;
       made = subst (λ (t : Debugged). (r : List ℕ)
           × PassingSteps c.args.stops.now (c.legs.steps + end.steps) (debugged c.args.self.now) r t
           × Prints contents c.args.link.now c.send-in-legs.new.link (first ++ r)) (sym c.send-in-legs.ensures.kept)

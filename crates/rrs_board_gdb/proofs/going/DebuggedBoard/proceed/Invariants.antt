@@ -8,6 +8,7 @@ abbrev pub invariant-legs : goal.invariant-legs
 invariant-legs g l = record {
   within : l.steps ≤ l.fn.limit;
   emptied : l.self.output.items ≡ [];
+  acknowledges : l.link.acknowledges ≡ l.fn.link.acknowledges;
   made : (printed : List ℕ)
       × PassingSteps l.stops l.steps (debugged l.fn.self) printed (debugged l.self)
       × Prints g.W.Write.contents l.fn.link l.link (l.fn.self.output.items ++ printed);
