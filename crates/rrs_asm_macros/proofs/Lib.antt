@@ -3,3 +3,4 @@ pub mod Mapping
 pub mod Above
 pub mod Becoming
 mod Finding
+mod Labels

@@ -6,6 +6,7 @@ use Rattle.std.specs.List.{slice_split, list_any}
 use Rattle.std.specs.Map.{lookup}
 use Rattle.std.specs.Str.{str_eq_ignore_ascii_case}
 use Rattle.rrs_asm_lines.specs.Lines.{is_in_word, word}
+use Rattle.rrs_asm_macros.specs.declared.blocks.BlockKind.{BlockKind}
 use Rattle.rrs_asm_macros.specs.declared.directives.Comparison.{Comparison}
 use Rattle.rrs_asm_macros.specs.declared.directives.Directive.{Directive}
 use Rattle.rrs_asm_macros.specs.declared.directives.Test.{Test}
@@ -93,3 +94,15 @@ abbrev pub is_end_alone : Directive → Bool
 is_end_alone Directive.EndMacro = true
 is_end_alone Directive.EndRepeat = true
 is_end_alone _ = false
+
+-- a directive begins a block of a kind
+abbrev pub begins_block : BlockKind → Directive → Bool
+begins_block BlockKind.Macro Directive.Macro = true
+begins_block BlockKind.Macro _ = false
+begins_block BlockKind.Repetition directive = is_repetition directive
+
+-- it ends one
+abbrev pub ends_block : BlockKind → Directive → Bool
+ends_block BlockKind.Macro Directive.EndMacro = true
+ends_block BlockKind.Repetition Directive.EndRepeat = true
+ends_block _ _ = false

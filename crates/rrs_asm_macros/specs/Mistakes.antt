@@ -1,9 +1,10 @@
 -- The mistakes in macros, conditions and repetitions, and where each is told: at its line, as GNU
 -- `as` does, and at its byte of this line. Both are counted from 1.
-use Rattle.std.specs.Prelude.{ℕ, ◌+◌, ◌-◌, ◌==◌, Bool, true, false, List, ◌++◌, codes, drop, length}
+use Rattle.std.specs.Prelude.{ℕ, zero, suc, ◌+◌, ◌-◌, ◌==◌, Bool, true, false, if◌then◌else◌, List, [], ◌∷◌, ◌++◌, codes, drop, length, slice_get, Option, Some, None}
 use Rattle.std.specs.Fmt.{decimal}
 use Rattle.std.specs.List.{list_any}
-use Rattle.rrs_asm_lines.specs.Lines.{word}
+use Rattle.rrs_asm_lines.specs.Lines.{lines, word}
+use Rattle.rrs_asm_lines.specs.declared.errors.SourceErrorKind.{SourceErrorKind}
 use Rattle.rrs_asm_macros.specs.declared.errors.MacroErrorKind.{MacroErrorKind}
 use Rattle.rrs_asm_macros.specs.declared.errors.MacroError.{MacroError}
 use Rattle.rrs_asm_macros.specs.declared.errors.MacroFault.{MacroFault}
@@ -24,6 +25,11 @@ is_of_word MacroErrorKind.NoParameter = true
 is_of_word MacroErrorKind.Number = true
 is_of_word MacroErrorKind.NotConstant = true
 is_of_word _ = false
+
+-- what is told of a fault that operators have
+abbrev pub kind_of_fault : SourceErrorKind → MacroErrorKind
+kind_of_fault SourceErrorKind.Division = MacroErrorKind.Division
+kind_of_fault _ = MacroErrorKind.Operators
 
 -- A mistake where so many bytes of a text are left, of which this is the length, in a line that
 -- begins at a byte.
@@ -77,6 +83,19 @@ word_at column line = word (drop (column - 1) line)
 
 abbrev pub has_backslash : List ℕ → Bool
 has_backslash line = list_any (λ b. b == 92) line
+
+-- this word, if there is one
+abbrev pub if_any : List ℕ → Option (List ℕ)
+if_any [] = None
+if_any (b ∷ bs) = Some (b ∷ bs)
+
+abbrev pub plain_word : ℕ → List ℕ → Option (List ℕ)
+plain_word column line = if has_backslash line then None else if_any (word_at column line)
+
+-- the line with a number, of which the first is 1
+abbrev pub line_with : ℕ → List ℕ → Option (List ℕ)
+line_with zero source = None
+line_with (suc above) source = slice_get (lines source) above
 
 -- how many mistakes there are, or that memory is missing
 abbrev pub fault_told : {A : Type 0} → MacroFault A → List ℕ

@@ -1,7 +1,7 @@
 -- Operands of a statement of macros, read from left to right (GNU assembler manual, "Whitespace"
 -- and "Macros"). A blank means something between two words alone. The first mistake stays, and
 -- nothing after it is read.
-use Rattle.std.specs.Prelude.{◌≡◌, ℕ, ◌+◌, ◌-◌, ◌^◌, min, Bool, true, false, ◌&&◌, ◌||◌, ◌==◌, nat_lt, if◌then◌else◌, List, [], ◌∷◌, length, Option, Some, None, unwrap_or}
+use Rattle.std.specs.Prelude.{◌≡◌, ℕ, ◌+◌, ◌-◌, ◌^◌, min, Bool, true, false, ◌&&◌, ◌||◌, ◌==◌, nat_lt, if◌then◌else◌, List, [], ◌∷◌, drop, length, Option, Some, None, unwrap_or}
 use Rattle.rrs_asm_lines.specs.Lines.{is_in_word, behind_blanks}
 use Rattle.rrs_asm_macros.specs.declared.cursor.Cursor.{Cursor}
 use Rattle.rrs_asm_macros.specs.declared.errors.Halt.{Halt}
@@ -26,6 +26,15 @@ first_byte before behind_blank (b ∷ bs) =
 abbrev pub next_byte : ℕ → List ℕ → Option (ℕ × List ℕ)
 next_byte before rest = let after = behind_blanks rest in
     first_byte before (nat_lt (length after) (length rest)) after
+
+-- what is after a mark of one byte, which may stand after blanks
+abbrev pub behind_mark : List ℕ → List ℕ
+behind_mark rest = drop 1 (behind_blanks rest)
+
+-- what is after the apostrophe that may end a character constant
+abbrev pub behind_apostrophe : List ℕ → List ℕ
+behind_apostrophe [] = []
+behind_apostrophe (b ∷ bs) = if b == 39 then bs else b ∷ bs
 
 -- a mistake, where memory is not missing
 abbrev pub is_slip : Option Halt → Bool

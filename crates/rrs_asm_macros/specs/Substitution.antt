@@ -1,7 +1,7 @@
 -- A macro's body with arguments in the places of its parameters (GNU assembler manual, ".macro"):
 -- "`\name`" stands for the value of the parameter with this name, which is its default where the
 -- argument is empty, "`\@`" for the number of the call, and "`\()`" for nothing.
-use Rattle.std.specs.Prelude.{◌≡◌, ℕ, Bool, true, false, ◌||◌, ◌==◌, if◌then◌else◌, List, [], ◌∷◌, slice_get, Option, Some, None, Vec}
+use Rattle.std.specs.Prelude.{◌≡◌, ℕ, ◌+◌, Bool, true, false, ◌||◌, ◌==◌, if◌then◌else◌, List, [], ◌∷◌, slice_get, Option, Some, None, Vec}
 use Rattle.std.specs.List.{HoldsAt}
 use Rattle.std.specs.Option.{option_map, option_and_then}
 use Rattle.rrs_asm_lines.specs.Lines.{is_between, word}
@@ -32,3 +32,12 @@ begins_name b =
 abbrev pub name_after : List ℕ → List ℕ
 name_after [] = []
 name_after (b ∷ bs) = if begins_name b then word (b ∷ bs) else []
+
+-- what stands in the parentheses after a backslash, and how many bytes these are with it
+abbrev pub in_parentheses : List ℕ → List ℕ
+in_parentheses [] = []
+in_parentheses (b ∷ bs) = if b == 41 then [] else b ∷ in_parentheses bs
+
+abbrev pub size_with : List ℕ → ℕ
+size_with [] = 2
+size_with (b ∷ bs) = if b == 41 then 3 else size_with bs + 1

@@ -1,8 +1,13 @@
 //! Parameters of macros, and the arguments that a call gives them.
 
-ghost use Rattle.std.specs.Prelude.{◌≡◌, ◌<◌, ◌≤◌, false, true, None, Some, IfSome, IfNone, IfErr, IfOk, length};
+ghost use Rattle.std.specs.Prelude.{◌≡◌, ◌<◌, ◌≤◌, ◌++◌, ◌∷◌, [], false, true, None, Some, IfSome, IfNone, IfErr, IfOk, is_none, ◌==◌, length, take};
+ghost use Rattle.std.specs.Bool.{OnFalse, OnTrue};
 ghost use Rattle.std.specs.List.{HoldsAt};
-ghost use Rattle.rrs_asm_macros.specs.Arguments.{by_place, has_name, named};
+ghost use Rattle.rrs_asm_lines.specs.Lines.{begins_with, behind_blanks, behind_word, is_name, word};
+ghost use Rattle.rrs_asm_macros.specs.declared.errors.Halt.{Halt};
+ghost use Rattle.rrs_asm_macros.specs.Arguments.{by_place, decimal_of, has_name, kind_of, named, string_from, behind_string};
+ghost use Rattle.rrs_asm_macros.specs.Operands.{Halts, Reads, behind_mark, next_byte, slip_at};
+ghost use Rattle.rrs_asm_macros.specs.Scanning.{first_of};
 
 use crate::cursor::Cursor;
 use crate::errors::MacroErrorKind;
@@ -74,7 +79,13 @@ fn mistake_behind<A: Allocator + Copy>(
 }
 
 /// Takes a parameter: its name, what it takes, and its default.
-fn take_parameter<A: Allocator + Copy>(alloc: A, cursor: &mut Cursor) -> Parameter<A> {
+fn take_parameter<A: Allocator + Copy>(alloc: A, cursor: &mut Cursor) -> Parameter<A>
+    ensures name { OnTrue (is_none cursor.new.mistake)
+        (result.name.items ≡ word cursor.old.rest.now) }
+    ensures kind { OnTrue (is_none cursor.new.mistake)
+        (take 1 (behind_blanks (behind_word cursor.old.rest.now)) ≡ 58 ∷ []
+        → kind_of (word (behind_mark (behind_word cursor.old.rest.now))) ≡ Some result.kind) }
+{
     let name = cursor.name();
     let kind = take_kind(cursor);
     let mut parameter = Parameter {
@@ -89,7 +100,11 @@ fn take_parameter<A: Allocator + Copy>(alloc: A, cursor: &mut Cursor) -> Paramet
 }
 
 /// A copy of bytes. Where memory is missing, that is kept, and there is none of them.
-pub fn copied<A: Allocator + Copy>(alloc: A, bytes: &[u8], cursor: &mut Cursor) -> Vec<u8, A> {
+pub fn copied<A: Allocator + Copy>(alloc: A, bytes: &[u8], cursor: &mut Cursor) -> Vec<u8, A>
+    ensures copy { OnTrue (is_none cursor.new.mistake) (result.items ≡ bytes.now) }
+    ensures kept { OnTrue (is_none cursor.new.mistake) (cursor.new ≡ cursor.old) }
+    ensures first { IfSome cursor.old.mistake (λ halt. cursor.new.mistake ≡ Some halt) }
+{
     match Vec::from_slice(alloc, bytes) {
         Ok(copy) => copy,
         Err(_) => {
@@ -100,19 +115,30 @@ pub fn copied<A: Allocator + Copy>(alloc: A, bytes: &[u8], cursor: &mut Cursor) 
 }
 
 /// Takes what a parameter takes, if it is said.
-fn take_kind(cursor: &mut Cursor) -> Kind {
+fn take_kind(cursor: &mut Cursor) -> Kind
+    ensures none { (take 1 (behind_blanks cursor.old.rest.now) ≡ 58 ∷ [] → ⊥)
+        → (result ≡ Kind.Optional) × (cursor.new ≡ cursor.old) }
+    ensures said { take 1 (behind_blanks cursor.old.rest.now) ≡ 58 ∷ []
+        → IfSome (kind_of (word (behind_mark cursor.old.rest.now))) (λ kind. (result ≡ kind)
+        × Reads cursor.old cursor.new (behind_word (behind_mark cursor.old.rest.now))) }
+    ensures wrong { take 1 (behind_blanks cursor.old.rest.now) ≡ 58 ∷ []
+        → IfNone (kind_of (word (behind_mark cursor.old.rest.now)))
+        (Halts cursor.old cursor.new (Halt.Slip (slip_at (behind_mark cursor.old.rest.now)
+        cursor.old.behind MacroErrorKind.Qualifier))) }
+{
     if !cursor.take_if(b":") {
         return Kind::Optional;
     }
     let slip = cursor.slip(MacroErrorKind::Qualifier);
-    match cursor.word() {
-        b"req" => Kind::Required,
-        b"vararg" => Kind::Rest,
-        _ => {
-            cursor.fail(slip);
-            Kind::Optional
-        }
+    let word = cursor.word();
+    if word == b"req".as_slice() {
+        return Kind::Required;
     }
+    if word == b"vararg".as_slice() {
+        return Kind::Rest;
+    }
+    cursor.fail(slip);
+    Kind::Optional
 }
 
 /// Which parameter has a name.
@@ -176,7 +202,17 @@ fn take_arguments<A: Allocator + Copy>(
 }
 
 /// Takes the name of the next argument and the `=` after it, if it has one.
-fn take_keyword<'a>(cursor: &mut Cursor<'a>) -> Option<&'a [u8]> {
+fn take_keyword<'a>(cursor: &mut Cursor<'a>) -> Option<&'a [u8]>
+    ensures name { IfSome result (λ name. (name.now ≡ word cursor.old.rest.now)
+        × (is_name name.now ≡ true)) }
+    ensures marked { IfSome result (λ _.
+        take 1 (behind_blanks (behind_word cursor.old.rest.now)) ≡ 61 ∷ []) }
+    ensures reads { IfSome result (λ _. Reads cursor.old cursor.new
+        (behind_mark (behind_word cursor.old.rest.now))) }
+    ensures none { IfNone result (cursor.new ≡ cursor.old) }
+    ensures unnamed { IfNone result (OnTrue (is_name (word cursor.old.rest.now))
+        (take 1 (behind_blanks (behind_word cursor.old.rest.now)) ≡ 61 ∷ [] → ⊥)) }
+{
     let mut ahead = *cursor;
     let word = ahead.word();
     if !is_name(word) || !ahead.take_if(b"=") {
@@ -226,7 +262,12 @@ fn take_value<A: Allocator + Copy>(
 
 /// Takes an argument: a string without its quotation marks, or what stands before a comma or a
 /// blank, with blanks in parentheses and brackets.
-pub fn take_argument<A: Allocator>(cursor: &mut Cursor, value: &mut Vec<u8, A>) {
+pub fn take_argument<A: Allocator>(cursor: &mut Cursor, value: &mut Vec<u8, A>)
+    ensures string { take 1 (behind_blanks cursor.old.rest.now) ≡ 34 ∷ []
+        → OnTrue (is_none cursor.new.mistake) (value.new.items ≡ value.old.items
+        ++ string_from false false false (behind_mark cursor.old.rest.now)) }
+    ensures first { IfSome cursor.old.mistake (λ halt. cursor.new.mistake ≡ Some halt) }
+{
     if cursor.take_if(b"\"") {
         return take_string(cursor, value, false);
     }
@@ -244,7 +285,9 @@ pub fn take_argument<A: Allocator>(cursor: &mut Cursor, value: &mut Vec<u8, A>) 
 }
 
 /// Takes all that is left before a byte, without blanks that mean nothing.
-pub fn take_all<A: Allocator>(cursor: &mut Cursor, value: &mut Vec<u8, A>, end: Option<u8>) {
+pub fn take_all<A: Allocator>(cursor: &mut Cursor, value: &mut Vec<u8, A>, end: Option<u8>)
+    ensures first { IfSome cursor.old.mistake (λ halt. cursor.new.mistake ≡ Some halt) }
+{
     for _ in 0..u64::MAX {
         let next = cursor.peek();
         if next.is_none() || next == end {
@@ -256,7 +299,23 @@ pub fn take_all<A: Allocator>(cursor: &mut Cursor, value: &mut Vec<u8, A>, end: 
 
 /// Takes a byte, a string as it stands, or a character constant as its number, which GNU `as` makes
 /// of it before it looks at macros.
-fn take_piece<A: Allocator>(cursor: &mut Cursor, value: &mut Vec<u8, A>) {
+fn take_piece<A: Allocator>(cursor: &mut Cursor, value: &mut Vec<u8, A>)
+    ensures byte { OnTrue (is_none cursor.new.mistake)
+        (IfSome (next_byte cursor.old.before cursor.old.rest.now) (λ next. OnFalse (next.0 == 39)
+        (OnFalse (next.0 == 34) ((value.new.items ≡ value.old.items ++ next.0 ∷ [])
+        × (cursor.new.rest.now ≡ next.1))))) }
+    ensures string { OnTrue (is_none cursor.new.mistake)
+        (IfSome (next_byte cursor.old.before cursor.old.rest.now) (λ next. OnTrue (next.0 == 34)
+        ((value.new.items ≡ value.old.items ++ 34 ∷ string_from true false false next.1)
+        × (cursor.new.rest.now ≡ behind_string false false next.1)))) }
+    ensures number { OnTrue (is_none cursor.new.mistake)
+        (IfSome (next_byte cursor.old.before cursor.old.rest.now) (λ next. OnTrue (next.0 == 39)
+        (OnFalse (begins_with 92 next.1) (IfSome (first_of next.1) (λ byte.
+        value.new.items ≡ value.old.items ++ decimal_of byte))))) }
+    ensures over { next_byte cursor.old.before cursor.old.rest.now ≡ None
+        → (value.new ≡ value.old) × (cursor.new ≡ cursor.old) }
+    ensures first { IfSome cursor.old.mistake (λ halt. cursor.new.mistake ≡ Some halt) }
+{
     match cursor.take() {
         Some(b'\'') => {
             if let Some(number) = character(cursor) {
@@ -274,7 +333,12 @@ fn take_piece<A: Allocator>(cursor: &mut Cursor, value: &mut Vec<u8, A>) {
 }
 
 /// Appends a number.
-fn put_decimal<A: Allocator>(number: u8, cursor: &mut Cursor, value: &mut Vec<u8, A>) {
+fn put_decimal<A: Allocator>(number: u8, cursor: &mut Cursor, value: &mut Vec<u8, A>)
+    ensures put { OnTrue (is_none cursor.new.mistake)
+        (value.new.items ≡ value.old.items ++ decimal_of number) }
+    ensures kept { OnTrue (is_none cursor.new.mistake) (cursor.new ≡ cursor.old) }
+    ensures first { IfSome cursor.old.mistake (λ halt. cursor.new.mistake ≡ Some halt) }
+{
     if number >= 100 {
         cursor.put(b'0' + number / 100, value);
     }
@@ -286,12 +350,15 @@ fn put_decimal<A: Allocator>(number: u8, cursor: &mut Cursor, value: &mut Vec<u8
 
 /// Takes what is left of a string, with or without the quotation mark that ends it. Two of them are
 /// one, and are kept as two.
-pub fn take_string<A: Allocator>(cursor: &mut Cursor, value: &mut Vec<u8, A>, keeps_marks: bool) {
+pub fn take_string<A: Allocator>(cursor: &mut Cursor, value: &mut Vec<u8, A>, keeps_marks: bool)
+    ensures text { OnTrue (is_none cursor.new.mistake) (value.new.items
+        ≡ value.old.items ++ string_from keeps_marks false false cursor.old.rest.now) }
+    ensures left { OnTrue (is_none cursor.new.mistake)
+        (cursor.new.rest.now ≡ behind_string false false cursor.old.rest.now) }
+    ensures first { IfSome cursor.old.mistake (λ halt. cursor.new.mistake ≡ Some halt) }
+{
     let mut is_escaped = false;
-    for _ in 0..u64::MAX {
-        let Some(byte) = cursor.take_raw() else {
-            break;
-        };
+    while let Some(byte) = cursor.take_raw() {
         if byte == b'"' && !is_escaped {
             if keeps_marks {
                 cursor.put(b'"', value);

@@ -1,7 +1,10 @@
 //! The lines between a directive and the one that ends it.
 
-ghost use Rattle.std.specs.Prelude.{◌≡◌, length};
+ghost use Rattle.std.specs.Prelude.{◌≡◌, ◌⊎◌, ◌≤◌, [], ◌∷◌, ◌++◌, false, IfNone, IfSome, length};
+ghost use Rattle.std.specs.Option.{option_map_or};
 ghost use Rattle.rrs_asm_lines.specs.Lines.{lines};
+ghost use Rattle.rrs_asm_macros.specs.Directives.{begins_block, ends_block};
+ghost use Rattle.rrs_asm_macros.specs.Scanning.{before, directive_of};
 
 use crate::directives::{Directive, directive_named};
 use crate::scanning::{behind_labels, first_statement};
@@ -28,7 +31,12 @@ pub struct Block<'a> {
 }
 
 /// By how much a statement nests blocks of a kind: whether it begins one or ends one.
-fn edge(kind: BlockKind, code: &[u8]) -> (bool, bool) {
+fn edge(kind: BlockKind, code: &[u8]) -> (bool, bool)
+    ensures begins { result.0 ≡ option_map_or (λ directive. begins_block kind directive)
+        (directive_of code.now) false }
+    ensures ends { result.1 ≡ option_map_or (λ directive. ends_block kind directive)
+        (directive_of code.now) false }
+{
     let (word, _) = split_word(behind_labels(code));
     let Some(directive) = directive_named(word) else {
         return (false, false);
@@ -76,7 +84,12 @@ pub fn first_block(text: &[u8], kind: BlockKind) -> Option<Block<'_>> {
 
 /// What stands before a statement, with its labels and without the last line feed, if it is
 /// anything.
-fn inside<'a>(text: &'a [u8], rest: &[u8], code: &[u8]) -> Option<&'a [u8]> {
+fn inside<'a>(text: &'a [u8], rest: &[u8], code: &[u8]) -> Option<&'a [u8]>
+    ensures none { IfNone result (length code.now ≤ length rest.now
+        → length rest.now ≤ length text.now → before text.now rest.now code.now ≡ []) }
+    ensures lines { IfSome result (λ own. (before text.now rest.now code.now ≡ own.now ++ 10 ∷ [])
+        ⊎ (before text.now rest.now code.now ≡ own.now)) }
+{
     let labels = code.len().saturating_sub(behind_labels(code).len());
     let end = text.len().saturating_sub(rest.len()).saturating_add(labels);
     match text.get(..end) {

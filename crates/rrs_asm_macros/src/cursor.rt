@@ -3,10 +3,10 @@
 //! GNU `as` takes blanks out of operands before it looks at macros: it keeps one where a letter, a
 //! digit or a quotation mark stands on both sides. So `1 + 2` is one argument, and `1 2` are two.
 
-ghost use Rattle.std.specs.Prelude.{◌≡◌, ◌++◌, ◌∷◌, [], Some, None, MatchOption, IfSome, IfNone, length, drop, take, is_none, ◌==◌};
+ghost use Rattle.std.specs.Prelude.{◌≡◌, ◌≤◌, ◌++◌, ◌∷◌, [], false, Some, None, MatchOption, IfSome, IfNone, length, drop, take, is_none, ◌==◌};
 ghost use Rattle.std.specs.Bool.{OnTrue, OnFalse};
-ghost use Rattle.rrs_asm_lines.specs.Lines.{behind_blanks, behind_word, is_name, word};
-ghost use Rattle.rrs_asm_macros.specs.Operands.{Halts, Reads, keeps_blank, next_byte, slip_at};
+ghost use Rattle.rrs_asm_lines.specs.Lines.{begins_with, behind_blanks, behind_word, is_name, word};
+ghost use Rattle.rrs_asm_macros.specs.Operands.{Halts, Reads, behind_mark, keeps_blank, next_byte, slip_at};
 
 use crate::errors::{Halt, MacroErrorKind, Slip};
 use rrs_asm_lines::{
@@ -96,6 +96,7 @@ impl<'a> Cursor<'a> {
             (text.new.items ≡ text.old.items ++ byte ∷ []) }
         ensures kept { OnTrue (is_none self.new.mistake) (self.new ≡ self.old) }
         ensures first { IfSome self.old.mistake (λ halt. self.new.mistake ≡ Some halt) }
+        ensures no_more { length self.new.rest.now ≤ length self.old.rest.now }
     {
         let is_kept = text.push(byte).is_ok();
         self.keep(is_kept);
@@ -171,7 +172,11 @@ impl<'a> Cursor<'a> {
     }
 
     /// Takes the operator before a value that is next: none stands for a plus.
-    pub fn operator_before(&mut self) -> Option<Option<Operator>> {
+    pub fn operator_before(&mut self) -> Option<Option<Operator>>
+        ensures reads { IfSome result (λ _. Reads self.old self.new
+            (behind_mark self.old.rest.now)) }
+        ensures none { IfNone result (self.new ≡ self.old) }
+    {
         let (byte, rest) = behind_blanks(self.rest).split_first()?;
         let operator = operator_before(*byte)?;
         self.rest = rest;
@@ -180,7 +185,13 @@ impl<'a> Cursor<'a> {
     }
 
     /// Takes the operator between two values that is next.
-    pub fn operator_between(&mut self) -> Option<Operator> {
+    pub fn operator_between(&mut self) -> Option<Operator>
+        ensures there { IfSome result (λ _.
+            length (behind_blanks self.old.rest.now) == 0 ≡ false) }
+        ensures none { IfNone result (self.new ≡ self.old) }
+        ensures mistake_kept { self.new.mistake ≡ self.old.mistake }
+        ensures behind_kept { self.new.behind ≡ self.old.behind }
+    {
         let rest = behind_blanks(self.rest);
         let (first, second) = match rest {
             [first, second, ..] => (*first, *second),
@@ -212,6 +223,7 @@ impl<'a> Cursor<'a> {
     /// Takes a byte, if it is the next one and stands after no blank.
     pub fn take_next(&mut self, wanted: u8) -> bool
         ensures taken { OnTrue result (self.old.rest.now ≡ wanted ∷ self.new.rest.now) }
+        ensures absent { OnFalse result (begins_with wanted self.old.rest.now ≡ false) }
         ensures kept { OnFalse result (self.new ≡ self.old) }
         ensures mistake_kept { self.new.mistake ≡ self.old.mistake }
     {

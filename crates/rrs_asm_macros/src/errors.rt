@@ -1,10 +1,11 @@
 //! What can be wrong with macros, conditions and repetitions.
 
-ghost use Rattle.std.specs.Prelude.{◌≡◌, [], false, None, Some, IfNone, IfSome};
+ghost use Rattle.std.specs.Prelude.{◌≡◌, false, None, Some};
 ghost use Rattle.std.specs.Bool.{OnTrue};
-ghost use Rattle.rrs_asm_macros.specs.Mistakes.{fault_told, has_backslash, is_last, is_of_word, told, word_at, words_of};
+ghost use Rattle.std.specs.Option.{option_and_then, option_map};
+ghost use Rattle.rrs_asm_macros.specs.Mistakes.{fault_told, is_last, is_of_word, line_with, plain_word, told, words_of};
 
-use rrs_asm_lines::split_word;
+use rrs_asm_lines::{first_line, split_word};
 use std::alloc::{AllocError, AllocFailed, Allocator, Global};
 use std::error::Error;
 use std::fmt;
@@ -162,16 +163,21 @@ impl MacroError {
     /// have arguments, since the mistake stands in it as they make it.
     pub fn word<'a>(&self, source: &'a [u8]) -> Option<&'a [u8]>
         ensures other { is_of_word self.now.kind ≡ false → result ≡ None }
+        ensures word { OnTrue (is_of_word self.now.kind) (option_map (λ found. found.now) result
+            ≡ option_and_then (plain_word self.now.column) (line_with self.now.line source.now)) }
     {
         if !self.kind.is_of_word() {
             return None;
         }
-        let mut number = 0usize;
-        for line in source.split(|byte| *byte == b'\n') {
-            number = number.saturating_add(1);
-            if number == self.line {
+        let mut above = self.line.checked_sub(1)?;
+        let mut rest = Some(source);
+        while let Some(text) = rest {
+            let (line, others) = first_line(text);
+            if above == 0 {
                 return word_from(line, self.column);
             }
+            above -= 1;
+            rest = others;
         }
         None
     }
@@ -179,9 +185,7 @@ impl MacroError {
 
 /// The word of a line without arguments that begins at a column.
 fn word_from(line: &[u8], column: usize) -> Option<&[u8]>
-    ensures word { IfSome result (λ found. found.now ≡ word_at column line.now) }
-    ensures arguments { OnTrue (has_backslash line.now) (result ≡ None) }
-    ensures plain { has_backslash line.now ≡ false → IfNone result (word_at column line.now ≡ []) }
+    ensures { option_map (λ found. found.now) result ≡ plain_word column line.now }
 {
     if line.contains(&b'\\') {
         return None;

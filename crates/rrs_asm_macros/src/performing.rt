@@ -1,14 +1,15 @@
 //! Performing a statement: what is put into the result, and what is read next.
 
-ghost use Rattle.std.specs.Prelude.{◌≡◌, ◌+◌, ◌<◌, ◌≤◌, [], true, None, IfSome, IfNone, MatchOption, length, is_none, ◌^◌};
+ghost use Rattle.std.specs.Prelude.{◌≡◌, ◌+◌, ◌<◌, ◌≤◌, [], true, None, IfSome, IfNone, MatchOption, length, is_none, is_some, ◌^◌};
 ghost use Rattle.std.specs.Bool.{OnTrue, OnFalse};
-ghost use Rattle.rrs_asm_lines.specs.Lines.{behind_blanks, lines};
+ghost use Rattle.rrs_asm_lines.specs.Lines.{behind_blanks, lines, word};
 ghost use Rattle.rrs_asm_macros.specs.Conditions.{is_skipped};
 ghost use Rattle.rrs_asm_macros.specs.Expanding.{line_of};
 ghost use Rattle.rrs_asm_macros.specs.Mistakes.{mistake_at};
 ghost use Rattle.rrs_asm_macros.specs.Directives.{is_counted, is_end_alone, is_exit, is_repetition};
 ghost use Rattle.rrs_asm_macros.specs.Operands.{Halts, capped};
 ghost use Rattle.rrs_asm_macros.specs.Reading.{IsRepeated};
+ghost use Rattle.rrs_asm_macros.specs.Tables.{macro_named};
 
 use crate::arguments::copied;
 use crate::blocks::{BlockKind, first_block, height};
@@ -342,7 +343,17 @@ fn define<A: Allocator + Copy>(
     inside: Option<&[u8]>,
     first: usize,
     cursor: &mut Cursor,
-) {
+)
+    ensures defined { OnTrue (is_none cursor.new.mistake) (OnTrue (is_none tables.new.mistake)
+        (is_some (macro_named (word cursor.old.rest.now) tables.new) ≡ true)) }
+    ensures body { OnTrue (is_none cursor.new.mistake) (OnTrue (is_none tables.new.mistake)
+        (IfSome inside.entry (λ own. IfSome (macro_named (word cursor.old.rest.now) tables.new)
+        (λ known. IfSome known.body (λ body. (body.first ≡ first)
+        × (body.height ≡ length (lines own.now))))))) }
+    ensures empty { OnTrue (is_none cursor.new.mistake) (OnTrue (is_none tables.new.mistake)
+        (IfNone inside.entry (IfSome (macro_named (word cursor.old.rest.now) tables.new)
+        (λ known. known.body ≡ None)))) }
+{
     let body = match inside {
         Some(inside) => match without_comments(tables.alloc, inside) {
             Ok(text) => Some(Lines {

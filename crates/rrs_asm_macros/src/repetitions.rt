@@ -1,5 +1,9 @@
 //! What `.irp` and `.irpc` repeat: their lines, with each value in the place of the parameter.
 
+ghost use Rattle.std.specs.Prelude.{◌≡◌, ◌∷◌, [], Some, IfSome, is_none, map};
+ghost use Rattle.std.specs.Bool.{OnTrue};
+ghost use Rattle.rrs_asm_lines.specs.Lines.{word};
+
 use crate::arguments::{Kind, Parameter, copied, take_all, take_argument, take_string};
 use crate::cursor::Cursor;
 use crate::substitution::{substitute, without_comments};
@@ -7,7 +11,11 @@ use crate::tables::Tables;
 use std::alloc::{AllocError, Allocator};
 
 /// Takes the one parameter of a repetition.
-fn take_parameter<A: Allocator + Copy>(alloc: A, cursor: &mut Cursor) -> Vec<Parameter<A>, A> {
+fn take_parameter<A: Allocator + Copy>(alloc: A, cursor: &mut Cursor) -> Vec<Parameter<A>, A>
+    ensures one { OnTrue (is_none cursor.new.mistake)
+        (map (λ parameter. parameter.name.items) result.items ≡ word cursor.old.rest.now ∷ []) }
+    ensures first { IfSome cursor.old.mistake (λ halt. cursor.new.mistake ≡ Some halt) }
+{
     let name = cursor.name();
     let parameter = Parameter {
         name: copied(alloc, name, cursor),

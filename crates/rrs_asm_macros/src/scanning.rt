@@ -1,9 +1,10 @@
 //! Cutting a text into statements, and a statement into labels, its first word and the rest.
 
-ghost use Rattle.std.specs.Prelude.{◌≡◌, MatchOption, None, Some};
+ghost use Rattle.std.specs.Prelude.{◌≡◌, MatchOption, None, Some, true};
 ghost use Rattle.std.specs.List.{list_any};
+ghost use Rattle.std.specs.Option.{option_map};
 ghost use Rattle.rrs_asm_macros.specs.Directives.{begins_one};
-ghost use Rattle.rrs_asm_macros.specs.Scanning.{first_label, has_parameters, place_after, plain_after};
+ghost use Rattle.rrs_asm_macros.specs.Scanning.{behind_labels, code_from, ends_at, ends_line_from, first_label, first_of, has_parameters, others_from, place_after, plain_after};
 ghost use Rattle.rrs_asm_lines.specs.Lines.{lines};
 
 use crate::directives::is_directive;
@@ -35,6 +36,13 @@ impl Place {
         ensures { result ≡ has_parameters self }
     {
         !matches!(self, Place::Character | Place::CharacterEscape)
+    }
+
+    /// Whether a statement ends at a byte there.
+    fn ends_at(self, byte: u8) -> bool
+        ensures { result ≡ ends_at self byte }
+    {
+        byte == b'\n' || byte == b';' && matches!(self, Place::Plain | Place::CharacterEnd)
     }
 
     /// Where the byte after this one stands.
@@ -86,30 +94,59 @@ pub struct Statement<'a> {
 }
 
 /// The statement at the beginning of a text, which ends at a semicolon or with its line.
-pub fn first_statement(text: &[u8]) -> Statement<'_> {
+pub fn first_statement(text: &[u8]) -> Statement<'_>
+    ensures code { result.code.now ≡ code_from Place.Plain text.now }
+    ensures others { option_map (λ rest. rest.now) result.others
+        ≡ others_from Place.Plain text.now }
+    ensures line { result.ends_line ≡ ends_line_from Place.Plain text.now }
+{
     let mut place = Place::Plain;
-    let mut end = None;
     for (index, byte) in text.iter().enumerate() {
         let behind = &text[index + 1..];
-        let is_line_feed = *byte == b'\n';
-        let can_end = matches!(place, Place::Plain | Place::CharacterEnd);
-        if is_line_feed || *byte == b';' && can_end {
+        if place.ends_at(*byte) {
             return Statement {
-                code: text.get(..end.unwrap_or(index)).unwrap_or(text),
+                code: &text[..index],
                 others: Some(behind),
-                ends_line: is_line_feed,
+                ends_line: *byte == b'\n',
             };
         }
-        place = place.behind(*byte, behind.first().copied());
-        if matches!(place, Place::Comment) && end.is_none() {
-            end = Some(index);
+        place = place.behind(*byte, first_of(behind));
+        if matches!(place, Place::Comment) {
+            return Statement {
+                code: &text[..index],
+                others: behind_comment(behind),
+                ends_line: true,
+            };
         }
     }
     Statement {
-        code: text.get(..end.unwrap_or(text.len())).unwrap_or(text),
+        code: text,
         others: None,
         ends_line: true,
     }
+}
+
+/// The first byte of a text, if there is one.
+pub fn first_of(text: &[u8]) -> Option<u8>
+    ensures { result ≡ first_of text.now }
+{
+    match text {
+        [byte, ..] => Some(*byte),
+        [] => None,
+    }
+}
+
+/// What is after the line feed that ends a comment, if one does.
+fn behind_comment(comment: &[u8]) -> Option<&[u8]>
+    ensures others { option_map (λ rest. rest.now) result ≡ others_from Place.Comment comment.now }
+    ensures line { ends_line_from Place.Comment comment.now ≡ true }
+{
+    for (index, byte) in comment.iter().enumerate() {
+        if *byte == b'\n' {
+            return Some(&comment[index + 1..]);
+        }
+    }
+    None
 }
 
 /// Whether a line of a text begins with a directive.
@@ -141,9 +178,11 @@ pub fn first_label(text: &[u8]) -> Option<(&[u8], &[u8])>
 }
 
 /// A statement after its labels.
-pub fn behind_labels(code: &[u8]) -> &[u8] {
+pub fn behind_labels(code: &[u8]) -> &[u8]
+    ensures { result.now ≡ behind_labels code.now }
+{
     let mut rest = code;
-    for _ in 0..code.len() {
+    for _passed in 0..code.len() {
         match first_label(rest) {
             Some((_, others)) => rest = others,
             None => break,

@@ -1,15 +1,15 @@
 //! A macro's body with arguments in the places of its parameters.
 
-ghost use Rattle.std.specs.Prelude.{◌≡◌, ◌⊎◌, ◌+◌, ◌<◌, [], ◌∷◌, Some, IfSome, IsSome, length, take};
+ghost use Rattle.std.specs.Prelude.{◌≡◌, ◌⊎◌, ◌+◌, ◌<◌, [], ◌∷◌, Some, IfSome, IsSome, drop, length, take};
 ghost use Rattle.std.specs.Bool.{OnTrue, OnFalse};
 ghost use Rattle.rrs_asm_lines.specs.Lines.{begins_with};
 ghost use Rattle.rrs_asm_macros.specs.Arguments.{has_name};
 ghost use Rattle.rrs_asm_macros.specs.Operands.{capped};
 ghost use Rattle.rrs_asm_macros.specs.Scanning.{has_parameters};
-ghost use Rattle.rrs_asm_macros.specs.Substitution.{IsValue, name_after, or_default, value_at};
+ghost use Rattle.rrs_asm_macros.specs.Substitution.{IsValue, in_parentheses, name_after, or_default, size_with, value_at};
 
 use crate::arguments::{Parameter, index_of};
-use crate::scanning::{Place, first_statement};
+use crate::scanning::{Place, first_of, first_statement};
 use rrs_asm_lines::split_word;
 use std::alloc::{AllocError, Allocator};
 
@@ -35,7 +35,7 @@ pub fn substitute<A: Allocator + Copy>(
         if taken == 1 {
             place = match *byte {
                 b'\n' => Place::Plain,
-                byte => place.behind(byte, others.first().copied()),
+                byte => place.behind(byte, first_of(others)),
             };
         }
         rest = rest.get(taken..).unwrap_or(&[]);
@@ -57,6 +57,9 @@ fn piece<'a, A: Allocator + Copy>(
         ((result.0.now ≡ take 1 text.now) × (result.1 ≡ 1)) }
     ensures number { OnTrue (has_parameters place) (take 2 text.now ≡ 92 ∷ 64 ∷ []
         → (result.0.now ≡ number.now) × (result.1 ≡ 2)) }
+    ensures literal { OnTrue (has_parameters place) (take 2 text.now ≡ 92 ∷ 40 ∷ []
+        → (result.0.now ≡ in_parentheses (drop 2 text.now))
+        × (result.1 ≡ capped (size_with (drop 2 text.now)))) }
 {
     match text {
         [b'\\', others @ ..] if place.has_parameters() => match others {
@@ -69,7 +72,10 @@ fn piece<'a, A: Allocator + Copy>(
 }
 
 /// What stands before a closing parenthesis, and how many bytes do with `\()`.
-fn literally(text: &[u8]) -> (&[u8], usize) {
+fn literally(text: &[u8]) -> (&[u8], usize)
+    ensures text { result.0.now ≡ in_parentheses text.now }
+    ensures taken { result.1 ≡ capped (size_with text.now) }
+{
     for (index, byte) in text.iter().enumerate() {
         if *byte == b')' {
             return (&text[..index], index + 3);

@@ -156,7 +156,12 @@ impl<A: Allocator + Copy> Tables<A> {
     }
 
     /// Defines what a statement that is no directive of macros defines.
-    pub fn note(&mut self, code: &[u8]) {
+    pub fn note(&mut self, code: &[u8])
+        ensures short { OnTrue self.new.symbols.is_short (is_some self.new.mistake ≡ true) }
+        ensures macros_kept { self.new.macros ≡ self.old.macros }
+        ensures calls_kept { self.new.calls ≡ self.old.calls }
+        ensures left_kept { self.new.left ≡ self.old.left }
+    {
         self.symbols.note(code);
         if self.symbols.is_short {
             self.keep(Some(Halt::OutOfMemory));
@@ -182,6 +187,8 @@ impl<A: Allocator + Copy> Tables<A> {
             (is_some (macro_named (word cursor.old.rest.now) self.new) ≡ true) }
         ensures duplicate { OnTrue (is_some (macro_named (word cursor.old.rest.now) self.old))
             (is_some self.new.mistake ≡ true) }
+        ensures body { OnTrue (is_none self.new.mistake) (IfSome (macro_named
+            (word cursor.old.rest.now) self.new) (λ own. own.body ≡ body)) }
     {
         let slip = cursor.slip(MacroErrorKind::Duplicate);
         let name = cursor.name();
@@ -236,7 +243,10 @@ impl<A: Allocator + Copy> Tables<A> {
     }
 
     /// The lines that a call of the macro with a name stands for, if there are any.
-    pub fn called(&self, word: &[u8], cursor: &mut Cursor) -> Option<Frame<A>> {
+    pub fn called(&self, word: &[u8], cursor: &mut Cursor) -> Option<Frame<A>>
+        ensures none { OnTrue (is_none cursor.new.mistake) (IfNone result
+            (IfSome (macro_named word.now self.now) (λ own. own.body ≡ None))) }
+    {
         match word.to_ascii_lowercase(self.alloc) {
             Ok(name) => {
                 let definition = self.macros.get(name.as_slice())?;
