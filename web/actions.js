@@ -39,7 +39,7 @@ const ACTIONS = {
   lesson: { label: "Go to the exercises of the lesson", key: "j" },
   check: { label: "Check the program by the cases of the exercise", key: "C" },
   hint: { label: "Show a hint of the exercise", key: "H" },
-  handIn: { label: "Hand in: save what was tried of the lesson as a file", key: "D" },
+  handIn: { label: "Hand in what was tried of the lesson, as a file or a link", key: "D" },
   closeLesson: { label: "Close the lesson", key: "q" },
   theme: { label: "Light or dark", key: "d" },
   keys: { label: "All keys, and the system calls", key: "?" },

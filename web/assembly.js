@@ -85,6 +85,16 @@ function columnOf(line, byte) {
   return new TextDecoder("utf-8", { ignoreBOM: true }).decode(before, { stream: true }).length + 1;
 }
 
+/* What is told too where a macro is written as RARS has it, which GNU's assembler does not read. */
+const MACRO_OF_RARS = "; as RARS writes it: here .macro name x begins it, \\x is its parameter, "
+  + "and .endm ends it";
+
+/* What is wrong in a line of a source, and what was meant where the kit does not know it. */
+function withMeant(what, line, text) {
+  if (!/(^|[;:])\s*\.macro\b/.test(line)) return what;
+  return line.includes("%") || /^\s*\.end_macro\b/m.test(text) ? what + MACRO_OF_RARS : what;
+}
+
 /** Assembles a source from an address on: `{ size, entry, bytes, statements, labels, mistakes }`. A
  * statement has its line, its text, its address and its size, and a label its name and its address;
  * local labels are left out. Where there are mistakes, each with its line, column and text, or more
@@ -99,6 +109,9 @@ function assemble(text, base, kit, mostRoom) {
       .filter(({ size }) => size > 0),
     labels: made.labels.filter(({ name }) => !/^[0-9]/.test(name)),
     mistakes: made.mistakes.map(({ line, column, text: what }) =>
-      ({ line, column: columnOf(lines[line - 1], column), text: what })),
+      ({
+        line, column: columnOf(lines[line - 1], column),
+        text: withMeant(what, lines[line - 1], text),
+      })),
   };
 }

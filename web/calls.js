@@ -188,6 +188,8 @@ const ENVIRONMENTS = {
       },
     },
   },
+  // an ecall goes to the handler
+  machine: { name: "machine mode", number: REGISTER.A7, hasTraps: true, calls: {} },
 };
 
 /** The calls of an environment, as a sentence has them: `1 (print_int), .. and 34 (print_hex)`. */

@@ -284,6 +284,70 @@ end:
 `,
   },
   {
+    id: "interrupts",
+    name: "Interrupts of a timer",
+    about: "A loop counts, and a timer interrupts it: the handler prints how often it came.",
+    calls: "machine",
+    text: `# Counts in a loop, which a timer interrupts each 50 instructions. The assembler has no
+# instructions of machine mode: macros make their words.
+    .macro csrw csr, register
+    .word 0x1073 + (\\csr << 20) + (\\register << 15)
+    .endm
+    .macro mret
+    .word 0x30200073
+    .endm
+mstatus = 0x300
+mie = 0x304
+mtvec = 0x305
+t0 = 5                      # the number of t0
+
+main:
+    la   t0, handler
+    csrw mtvec, t0          # where an interrupt goes to
+    li   t0, 0x80
+    csrw mie, t0            # that of the timer is enabled,
+    call again
+    li   t0, 8
+    csrw mstatus, t0        # and interrupts are on
+count:
+    addi s0, s0, 1
+    j    count
+
+# Prints a digit, and leaves the registers but s1 as they were. The fifth time it ends.
+handler:
+    addi sp, sp, -16
+    sw   ra, 12(sp)
+    sw   t0, 8(sp)
+    sw   t1, 4(sp)
+    addi s1, s1, 1
+    addi t1, s1, '0'
+    li   t0, 0x10000000     # the port
+    sb   t1, 0(t0)
+    li   t0, 5
+    beq  s1, t0, end
+    call again
+    lw   ra, 12(sp)
+    lw   t0, 8(sp)
+    lw   t1, 4(sp)
+    addi sp, sp, 16
+    mret                    # back to the loop
+end:
+    li   t0, 0x100000       # the finisher
+    li   t1, 0x5555
+    sw   t1, 0(t0)
+
+# Has the timer interrupt 50 instructions from now.
+again:
+    li   t0, 0x0200bff8     # the time
+    lw   t1, 0(t0)
+    addi t1, t1, 50
+    li   t0, 0x02004000     # the time of the interrupt
+    sw   t1, 0(t0)
+    sw   zero, 4(t0)
+    ret
+`,
+  },
+  {
     id: "linux",
     name: "Hello by the calls of Linux",
     about: "The same line by write and exit, as a program of Linux prints it.",

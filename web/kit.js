@@ -31,6 +31,12 @@ const LAYOUT = {
   symbol: { size: 32, line: 0, name: 8, length: 16, address: 24 },
   mistake: { size: 32, line: 0, column: 8, text: 16, length: 24 },
   name: { size: 20 },
+  csrs: {
+    size: 56, mstatus: 0, mie: 4, mtvec: 8, mscratch: 12, mepc: 16, mcause: 20, mtval: 24,
+    mcountinhibit: 28, mcycle: 32, minstret: 40,
+  },
+  outcome: { size: 12 },
+  machineRetired: { size: 112, rd: 44 },
 };
 
 /* The flags of a segment whose bytes are executed, and of one that is written to. */
@@ -151,7 +157,8 @@ class Kit {
    * its words, and the records of steps. */
   placeStructs() {
     const places = new Places(this.exports);
-    const structs = ["hart", "fault", "retired", "change", "instruction", "access", "text", "name"];
+    const structs = ["hart", "fault", "retired", "change", "instruction", "access", "text", "name",
+      "csrs", "outcome", "machineRetired"];
     for (const name of structs) this[name] = places.of(LAYOUT[name].size);
     this.memory = places.of(MOST_BYTES);
     this.hartCopy = places.of(LAYOUT.hart.size);
@@ -194,6 +201,15 @@ class Kit {
     this.exports.rrs_step_noted(
       at.fault, at.hart, at.memory, this.count, this.base, this.addressOf(change));
     return this.u32[this.fault / 4];
+  }
+
+  /** Makes a step of a hart with machine mode, at a time, where some interrupts are pending. Returns how
+   * it ended. */
+  stepMachine(pending, time) {
+    const at = this.addresses;
+    this.exports.rrs_machine_step(at.outcome, at.hart, at.csrs, at.memory, this.count, this.base,
+      pending, BigInt(time), 0n, at.machineRetired);
+    return this.u32[this.outcome / 4];
   }
 
   /** Takes the change in the words from `change` on back, in the hart and the words at addresses. */

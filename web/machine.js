@@ -23,6 +23,8 @@ const RUN_BYTES = 1 << 16;
 const KINDS = 1 << 10;
 function kindOf(word) {
   const opcode = word >>> 2 & 31;
+  // a call, or mret or wfi, which two other bits tell apart
+  if ((word & 0x707f) === 0x73) return opcode | (word >>> 28 & 3) << 8;
   return opcode | (word >>> 12 & 7) << 5 | (word >>> 30 & 1) << 8 | (word >>> 25 & 1) << 9;
 }
 
@@ -39,6 +41,7 @@ class Machine {
     this.history = new Records(kit);
     this.convention = new Convention(this.history);
     this.environment = ENVIRONMENTS.linux;
+    this.traps = new Traps(kit);
     this.load(new Uint32Array(0), 0, PAGE_BYTES, false);
   }
 
@@ -74,6 +77,7 @@ class Machine {
     this.heap = kit.base + 4 * this.program.length;
     this.break = this.heapRange().first;
     this.terminal.reset();
+    this.traps.reset();
     this.history.clear();
     this.convention.clear();
   }
@@ -101,6 +105,7 @@ class Machine {
     if (word === RETURN_WORD && kit.x[REGISTER.RA] === 0 && this.code !== null) {
       return { reason: "returned" };
     }
+    if (this.environment.hasTraps) return stepWithTraps(this);
     if (kit.stepNoted(history.next) === FAULT.NONE) {
       if (this.code !== null && this.hasStoredToCode()) return this.refuseStore();
       this.keep(word);
@@ -330,6 +335,9 @@ class Machine {
     if (history.length === 0) return false;
     const extra = history.pop();
     if (extra !== undefined) this.restore(extra);
+    if (extra?.traps !== undefined) this.traps.restore(extra.traps);
+    else if (this.environment.hasTraps) this.traps.count(-1);
+    if (extra?.cause !== undefined) return true;
     const index = (kit.pc - kit.base) >>> 2;
     this.executed[index]--;
     this.kinds[kindOf(kit.words[index])]--;
@@ -359,7 +367,7 @@ class Machine {
     for (let kind = 0; kind < KINDS; kind++) {
       if (this.kinds[kind] === 0) continue;
       const word = this.wordOfKind[kind];
-      const name = this.kit.disassemble(word, 0).split(" ")[0];
+      const [name] = (this.kit.disassemble(word, 0) || textOfMachineMode(word)).split(" ");
       const entry = byName.get(name) ?? { name, word, count: 0 };
       entry.count += this.kinds[kind];
       byName.set(name, entry);

@@ -78,7 +78,7 @@ class Page {
       lesson: () => $("exercises").querySelector("[aria-current]")?.focus(),
       check: () => this.check(),
       hint: () => this.lesson.showHint(),
-      handIn: () => this.work.handIn(),
+      handIn: () => this.showHandedIn(),
       closeLesson: () => this.closeLesson(),
       theme: () => this.changeTheme(),
       keys: () => this.showHelp(),
@@ -99,8 +99,8 @@ class Page {
     other.hidden = true;
     $("preset").append(other, ...PRESETS.map(({ name }, at) => new Option(name, at)));
     $("size").append(...SIZES.map((size) => new Option(`${size / 1024} KiB`, size)));
-    for (const [id, { name }] of Object.entries(ENVIRONMENTS)) {
-      $("calls").append(new Option(`calls of ${name}`, id));
+    for (const [id, { name, hasTraps }] of Object.entries(ENVIRONMENTS)) {
+      $("calls").append(new Option(hasTraps ? name : `calls of ${name}`, id));
     }
     this.fillExamples();
     for (const button of document.querySelectorAll("[data-action]")) {
@@ -109,6 +109,12 @@ class Page {
       button.setAttribute("aria-keyshortcuts", key);
       button.addEventListener("click", () => this.act(button.dataset.action));
     }
+    $("lesson-table").tBodies[0].append(...LINES_TOLD.map(([line, about]) => {
+      const cell = make("th");
+      cell.scope = "row";
+      cell.append(make("code", "", line));
+      return makeRow("tr", [cell, make("td", "", about)]);
+    }));
     for (const { label, key } of Object.values(ACTIONS)) {
       const keyCell = make("td");
       keyCell.append(make("kbd", "", key));
@@ -189,11 +195,16 @@ class Page {
   showHelp() {
     const { machine: { environment }, names } = this.session;
     const [number, result] = [names[environment.number], names[REGISTER.A0]];
-    setText($("call-title"), `System calls of ${environment.name}: the number is in ${number}, and `
-      + `what is read or given in ${result}`);
-    const rows = Object.entries(environment.calls).map(([call, { name, about }]) =>
-      makeRow("tr", [call, name, withNames(about, names)].map((text) => make("td", "", text))));
-    $("call-table").tBodies[0].replaceChildren(...rows);
+    setText($("call-title"), environment.hasTraps
+      ? "Machine mode: traps go to the handler at mtvec, and devices stand at addresses"
+      : `System calls of ${environment.name}: the number is in ${number}, and what is read or given in `
+        + result);
+    const told = environment.hasTraps
+      ? DEVICES_TOLD.map(([address, ...others]) => [hex(address), ...others])
+      : Object.entries(environment.calls).map(([call, { name, about }]) =>
+        [call, name, withNames(about, names)]);
+    $("call-table").tBodies[0].replaceChildren(...told.map((row) =>
+      makeRow("tr", row.map((text) => make("td", "", text)))));
     $("help").showModal();
   }
 
@@ -224,6 +235,10 @@ class Page {
       if (target.hash === location.hash) this.openLink();
     });
     $("copy").addEventListener("click", () => this.copyLink());
+    $("save-tries").addEventListener("click", () => {
+      this.work.handIn();
+      $("shared").close();
+    });
     $("changing").addEventListener("submit", (event) => {
       event.preventDefault();
       this.change();
@@ -447,12 +462,12 @@ class Page {
 
   /* Opens the program again in another memory. */
   takePreset(choice) {
-    const { name, about, text, language, calls, input, isDraft, machine } = this.session;
+    const { name, about, text, language, calls, input, memory, isDraft, machine } = this.session;
     const { kit: { base } } = machine;
     const { size, hasStack } = PRESETS[choice];
     const program =
-      { name, about, text, language, base, size, hasStack, calls, input, code: machine.code,
-        keepsStops: true, isDraft };
+      { name, about, text, language, base, size, hasStack, calls, input, memory,
+        code: machine.code, keepsStops: true, isDraft };
     const mistake = this.load(program, $("examples").value);
     if (mistake) this.refuse(`${name} was not opened. ${mistake}`);
     else this.editor.fillMemory();
@@ -494,8 +509,17 @@ class Page {
     this.work.keep();
     const kept = this.work.keeping.all("lessons")[at];
     if (!kept) return false;
-    const lesson = parseLesson(kept.text);
-    await this.openLesson(lesson, Math.min(number, lesson.exercises.length));
+    try {
+      const lesson = parseLesson(kept.text);
+      await this.openLesson(lesson, Math.min(number, lesson.exercises.length));
+    } catch (error) {
+      if (!(error instanceof ProgramError)) throw error;
+      // an earlier page may have kept what this one refuses, and at the start no program is open
+      if (this.session.text !== undefined) {
+        this.refuse(`${kept.title} was not opened. ${error.message}`);
+      }
+      return false;
+    }
     return true;
   }
 
@@ -543,6 +567,7 @@ class Page {
       hasStack: $("stack").checked,
       calls: this.session.calls,
       input: this.session.input,
+      memory: this.session.memory,
       code: this.editor.isChanged ? null : this.session.machine.code,
       keepsStops: true,
     };
@@ -551,6 +576,7 @@ class Page {
     else this.showListing();
     if (!mistake) this.editor.fillMemory();
     setText($("mistake"), mistake);
+    if (this.lesson.exercise) this.lesson.begin(mistake);
     return !mistake;
   }
 
@@ -562,14 +588,33 @@ class Page {
     const { machine, text, language, calls } = this.session;
     const { kit: { base, size }, hasStack } = machine;
     const hash = await encodeLink({ text, language, base, size, hasStack, calls });
+    this.share("A link to this program", "", hash);
+    $("link").select();
+  }
+
+  /* Shows what was tried of the lesson as a link, which can be saved as a file too. */
+  async showHandedIn() {
+    const { lesson } = this.lesson;
+    if (lesson === null) return;
+    this.work.keepLesson();
+    const count = lesson.exercises.flatMap(({ tries = [] }) => tries).length;
+    const tries = count === 1 ? "The 1 try" : `The ${numbered(count)} tries`;
+    const what = `${tries} of this lesson, as a file, or as a link that holds the lesson too. `;
+    this.share("Hand in", what, await encodeHandedIn(lesson));
+    $("save-tries").focus();
+  }
+
+  /* Shows a link. What was tried of a lesson can be saved too. */
+  share(title, what, hash) {
     const link = location.href.replace(/#.*$/, "") + hash;
+    setText($("shared-title"), title);
+    $("save-tries").hidden = what === "";
     $("link").value = link;
     const isLong = link.length > 8000 ? " Some programs that send mail cut such a long one." : "";
     const isFile = location.protocol === "file:"
       ? " It leads to a file of this computer: put the page on a server to send it." : "";
-    setText($("shared-note"), `${counted(link.length, "character")}.${isLong}${isFile}`);
+    setText($("shared-note"), `${what}${counted(link.length, "character")}.${isLong}${isFile}`);
     $("shared").showModal();
-    $("link").select();
   }
 
   /* Puts the link on the clipboard, or says that the browser did not let the page. */
@@ -606,18 +651,21 @@ class Page {
 
   /* Opens a lesson at an exercise. Of one that is open already what was tried stays. */
   async openLesson(lesson, number) {
+    refuseMemory(lesson, this.session);
     this.work.keep();
-    const isSame = this.lesson.lesson?.text === lesson.text;
+    const open = this.lesson.lesson;
+    const isSame = open?.text === lesson.text && open.handedIn === lesson.handedIn;
     const own = isSame ? this.lesson.lesson : lesson;
-    if (!isSame) this.work.recall(own);
+    if (!isSame && own.handedIn === undefined) this.work.recall(own);
     own.link ??= await encodeLesson(own.text);
     this.lesson.open(own, number, own.link);
     const { title, language, calls, size, hasStack, program, tried, cases } = this.lesson.exercise;
-    const [{ input }] = cases;
+    const [{ input, memory }] = cases;
     const name = title || "Exercise";
     // what a student has to begin with may be empty, or have mistakes to find
     const isDraft = true;
-    this.open({ name, text: program, language, calls, input, size, hasStack, isDraft, ...tried });
+    this.open(
+      { name, text: program, language, calls, input, memory, size, hasStack, isDraft, ...tried });
     this.work.keepLesson();
   }
 

@@ -266,7 +266,7 @@ function textOfFile(bytes, room, kit) {
   if (text !== null) return text;
   if (bytes.length > room) {
     throw new ProgramError(0, `It has ${numbered(bytes.length)} bytes, and the memory has `
-      + `${numbered(room)}. A larger memory can be chosen at Machine.`);
+      + `${numbered(room)}. A larger memory can be chosen under More.`);
   }
   return textOfBytes(bytes);
 }

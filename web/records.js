@@ -3,8 +3,8 @@
 // The records of the latest steps. The library notes in each what takes the step back, and takes it
 // back by that. What else is told of a step stands beside it.
 
-/* What made a step: the machine alone, the port, or a system call. */
-const MADE_BY = { MACHINE: 0, PORT: 1, CALL: 2 };
+/* What made a step: the machine alone, the port or a device, a system call, or machine mode. */
+const MADE_BY = { MACHINE: 0, PORT: 1, CALL: 2, TRAP: 3 };
 
 const NO_ACCESS = { address: 0, value: 0, readMask: 0, writeMask: 0 };
 

@@ -53,16 +53,20 @@ class Session {
   /** The text of a word at an address, with the names of registers that were chosen, and a target
    * by its label. */
   disassemble(word, address, names = this.names) {
-    const plain = inDecimal(this.machine.kit.disassemble(word, address));
+    const { kit, environment } = this.machine;
+    const listed = kit.disassemble(word, address);
+    const plain = listed === "" && environment.hasTraps ? textOfMachineMode(word) : inDecimal(listed);
     const text = withNames(plain, names);
     return isJumpToTarget(word) ? text.replace(/0x[0-9a-f]{8}$/, this.labelled) : text;
   }
 
   /** The text of a word of memory: its instruction, or what it is where the program has data. */
   textAt(index) {
-    const { machine: { kit, code, program } } = this;
+    const { machine: { kit, code, program, environment } } = this;
     const word = kit.words[index];
-    if (code !== null && code[index] === 0 && index < program.length) return textOfData(word);
+    const isData = code !== null && code[index] === 0 && index < program.length;
+    if (isData) return environment.hasTraps && textOfMachineMode(word) ? this.disassemble(word, 0)
+      : textOfData(word);
     return this.disassemble(word, kit.base + 4 * index);
   }
 
@@ -73,19 +77,26 @@ class Session {
     return name === undefined ? text : shortened(name, LABEL_SHOWN);
   };
 
+  /** What a step executed, by its record. */
+  executedBy({ word, pc, extra }, names = this.names) {
+    return extra?.cause === undefined ? this.disassemble(word, pc, names) : "trap";
+  }
+
   /** What a step did, by its record. */
   effectOf(record) {
     return effectOf(record, this.names);
   }
 
-  /** Opens a program: `{ name, about, text, language, base, size, hasStack, calls, input, code }`,
-   * with one of LANGUAGES and one of ENVIRONMENTS, what is typed before it starts, and which of its
-   * words are read-only, if that is known. With `keepsStops` breakpoints stay at their words, found by
-   * the label before them where it is still there. The text of a draft may have mistakes, and is to
-   * be mended in the editor. Throws a ProgramError, and then what was open stays. */
+  /** Opens a program: `{ name, about, text, language, base, size, hasStack, calls, input, memory,
+   * code }`, with one of LANGUAGES and one of ENVIRONMENTS, what is typed before it starts, what
+   * stands at its labels then, and which of its words are read-only, if that is known. With
+   * `keepsStops` breakpoints stay at their words, found by the label before them where it is still
+   * there. The text of a draft may have mistakes, and is to be mended in the editor. Throws a
+   * ProgramError, and then what was open stays. */
   open({
     name, about = "", text, language = "words", base = 0, size = SIZES[0], hasStack = false,
-    calls = "linux", input = "", code: given = null, keepsStops = false, isDraft = false,
+    calls = "linux", input = "", memory = [], code: given = null, keepsStops = false,
+    isDraft = false,
   }) {
     if (!Number.isInteger(base) || base < 0 || base > LARGEST_BASE || base % 4 !== 0) {
       throw new ProgramError(0, `Memory can start at a multiple of 4 up to ${hex(LARGEST_BASE)}.`);
@@ -106,7 +117,8 @@ class Session {
     const stops = keepsStops ? this.stopsIn(places) : [];
     Object.assign(
       this,
-      { name, about, text, language, labels, places, comments, sources, input, isDraft, mistake });
+      { name, about, text, language, labels, places, comments, sources, input, memory, isDraft,
+        mistake });
     machine.environment = ENVIRONMENTS[calls];
     machine.load(words, base, size, hasStack, entry, isProcess ? NO_ARGUMENTS : 0, code);
     this.stops = new Uint8Array(size / 4);
@@ -124,7 +136,7 @@ class Session {
     return readProgram(text, language, base, size, this.machine.kit, mostRoom);
   }
 
-  /* Reads a text that may have mistakes: then it is no words, and the first mistake. */
+  /** Reads a text that may have mistakes: then it is no words, and the first mistake. */
   readDraft(text, language, base, size) {
     try {
       return this.read(text, language, base, size);
@@ -164,6 +176,7 @@ class Session {
       ? `Memory covers the port: a byte stored to ${hex(PORT_ADDRESS)} is not printed.` : "";
     this.lines = this.machine.program.length + 1;
     this.machine.terminal.type(this.input);
+    for (const each of this.memory) putMemory(this, each);
     this.remember();
     if (this.mistake) this.say("To be edited", this.mistake, "wait");
     else this.say("Ready", [what, port, this.about].filter((part) => part).join(" "));
@@ -206,7 +219,7 @@ class Session {
     const { machine } = this;
     const [record] = machine.history.latest(1);
     this.say(`Step ${machine.steps.toLocaleString("en")}`, byNames((names) => {
-      const text = this.disassemble(record.word, record.pc, names);
+      const text = this.executedBy(record, names);
       const effect = effectOf(record, names);
       return effect ? `${text}: ${effect}` : text;
     }));
@@ -418,11 +431,14 @@ class Session {
     return Object.keys(ENVIRONMENTS).find((name) => ENVIRONMENTS[name] === environment);
   }
 
-  /** Has the calls of another environment served from here on. */
+  /** Has the calls of another environment served from here on. Machine mode begins and ends with the
+   * program's first state. */
   setCalls(name) {
+    const hadTraps = this.machine.environment.hasTraps;
     this.machine.environment = ENVIRONMENTS[name];
     this.notice.calls = null;
-    this.onChange();
+    if (hadTraps !== this.machine.environment.hasTraps) this.reset();
+    else this.onChange();
   }
 
   /** Gives typed text to the program. Answers whether it takes it: not after the end of input. */

@@ -210,13 +210,18 @@ const SINCE = "changed since the last stop";
 /* The choices of how registers are called. */
 const NAME_CHOICES = [["abi", "names (a0)"], ["number", "numbers (x10)"]];
 
-/** The pc and the registers x1 to x31. */
+/* What is shown of machine mode. */
+const CSRS_SHOWN = ["mstatus", "mtvec", "mie", "mip", "mepc", "mcause", "mtval", "mscratch", "time"];
+
+/** The pc and the registers x1 to x31, and the CSRs of machine mode. */
 class RegistersView {
   constructor(session) {
     this.session = session;
     this.radix = "hex";
     this.cells = ABI_NAMES.map((name, number) => this.makeCell(name, number));
     $("registers").append(...this.cells);
+    this.csrs = CSRS_SHOWN.map((name) => this.makeCsr(name));
+    $("csrs").append(...this.csrs);
     this.onChoose = () => {};
     $("registers").addEventListener("click", ({ target }) => {
       const cell = target.closest(".register");
@@ -237,7 +242,24 @@ class RegistersView {
     return cell;
   }
 
+  makeCsr(name) {
+    const cell = makeRow("div", [make("span", "name", name), make("span", "value")]);
+    cell.className = "csr";
+    cell.setAttribute("role", "listitem");
+    return cell;
+  }
+
+  /* The CSRs, and the time, where the machine has machine mode. */
+  renderCsrs() {
+    const { machine: { traps, environment } } = this.session;
+    $("csrs").hidden = !environment.hasTraps;
+    const values = { mip: traps.pending, time: traps.time };
+    CSRS_SHOWN.forEach((name, at) =>
+      setText(this.csrs[at].lastChild, hex(values[name] ?? traps.csrs[CSR[name]])));
+  }
+
   render() {
+    this.renderCsrs();
     const { machine: { kit }, names, before } = this.session;
     const { write } = RADIXES[this.radix];
     $("registers").dataset.radix = this.radix;
@@ -525,7 +547,7 @@ class LogView {
       const [step, address, text, effect] = rows[at].children;
       setText(step, (record.step + 1).toLocaleString("en"));
       setText(address, hexOf(record.pc));
-      setText(text, this.session.disassemble(record.word, record.pc));
+      setText(text, this.session.executedBy(record));
       setText(effect, this.session.effectOf(record));
     });
   }
@@ -601,12 +623,31 @@ function makeParagraph({ isCode, text }) {
 }
 
 /* What came of a case. Of one that is hidden nothing is told but whether it is right. */
-function makeCase({ title, isHidden, misses }, at, names) {
-  const all = misses.get(names);
+function makeCase(told, at, names) {
+  const { title, isHidden, misses } = told;
+  const isRight = misses.get(names).length === 0;
   const name = title || `case ${at + 1}`;
-  const why = isHidden ? "not right (its input is hidden)" : all.join(" ");
-  return make("li", all.length === 0 ? "right" : "missed",
-    `${name}: ${all.length === 0 ? "right" : why}`);
+  const why = isHidden ? "not right (its input is hidden)" : missedIn(told, names);
+  return make("li", isRight ? "right" : "missed", `${name}: ${isRight ? "right" : why}`);
+}
+
+/** What is said of the latest try of an exercise, and the class of its look: of one case what is
+ * missed. */
+function verdictOf({ told, cases, isSolved, mistake }, isChecking, names) {
+  const [, line] = /^Line (\d+):/.exec(mistake) ?? [];
+  if (line) return ["end", `Not checked: line ${line} has a mistake.`];
+  if (mistake) return ["end", `Not checked. ${mistake}`];
+  if (isChecking) return ["", "It is being checked."];
+  if (told === undefined) {
+    const of = cases.length > 1 ? ` with ${cases.length} cases` : "";
+    return ["", `${isSolved ? "Solved before. " : ""}Run the program, or check it${of}: what comes `
+      + "out is compared."];
+  }
+  const right = rightOf(told);
+  if (right === told.length) return ["done", "Solved."];
+  const isOne = cases.length === 1 && !told[0].isHidden;
+  return ["end", isOne ? missedIn(told[0], names)
+    : `${right} of ${cases.length} cases are right.`];
 }
 
 /** The exercises of the lesson that is open, and what came of the one that is tried. */
@@ -651,14 +692,23 @@ class LessonView {
     return this.judge;
   }
 
+  /** Has no verdict of before, as the text is loaded that is checked next, or has a mistake. */
+  begin(mistake) {
+    this.turn++;
+    Object.assign(this.exercise, { told: undefined, mistake });
+    this.show();
+  }
+
   /** Judges the program that is open by each case, and keeps it as a try. */
   async check() {
     const { exercise, session } = this;
     const { text, language } = session;
-    const turn = ++this.turn;
+    this.begin("");
+    const { turn } = this;
+    exercise.checking = turn;
+    this.showVerdict();
     const told = await judge(this.judging, exercise, { text, language }, () => this.pause(turn));
-    if (turn !== this.turn) return;
-    exercise.told = told;
+    Object.assign(exercise, { told, checking: 0 });
     const right = rightOf(told);
     if (right === told.length) exercise.isSolved = true;
     addTry(exercise, { text, language, right, of: told.length });
@@ -670,6 +720,8 @@ class LessonView {
     if (turn === this.turn && performance.now() - this.pausedAt < JUDGED_MS) return;
     await new Promise((done) => setTimeout(done));
     this.pausedAt = performance.now();
+    // a check that another one overtakes goes no further: both have the same machine
+    if (turn !== this.turn) await new Promise(() => {});
   }
 
   showHint() {
@@ -683,7 +735,8 @@ class LessonView {
     const { lesson, number, exercise } = this;
     const { exercises } = lesson;
     const solved = exercises.filter(({ isSolved }) => isSolved).length;
-    setText($("lesson-solved"), `${solved} of ${exercises.length} solved`);
+    const asHandedIn = lesson.handedIn === undefined ? "" : ", as it was handed in";
+    setText($("lesson-solved"), `${solved} of ${exercises.length} solved${asHandedIn}`);
     [...$("exercises").children].forEach((item, at) => {
       item.className = exercises[at].isSolved ? "solved" : "";
       if (at + 1 === number) item.firstChild.setAttribute("aria-current", "step");
@@ -709,19 +762,13 @@ class LessonView {
     button.setAttribute("aria-disabled", hinted === hints.length);
   }
 
-  /* What came of the latest try: of one case what is missed, and of several a line of each. */
+  /* What came of the latest try, and of several cases a line of each. */
   showVerdict() {
-    const { told, cases, isSolved } = this.exercise;
-    const right = told && rightOf(told);
-    const isRight = told !== undefined && right === told.length;
-    $("exercise-check").className = `check ${told ? (isRight ? "done" : "end") : ""}`;
-    const of = cases.length > 1 ? ` with ${cases.length} cases` : "";
-    const untried = `${isSolved ? "Solved before. " : ""}Run the program, or check it${of}: what `
-      + "comes out is compared.";
-    const { names } = this.session;
-    const some = cases.length > 1 ? `${right} of ${cases.length} cases are right.`
-      : told?.[0].misses.get(names).join(" ");
-    setText($("exercise-check"), isRight ? "Solved." : told === undefined ? untried : some);
+    const { exercise, turn, session: { names } } = this;
+    const { told, cases, checking } = exercise;
+    const [look, sentence] = verdictOf(exercise, checking === turn, names);
+    $("exercise-check").className = `check ${look}`;
+    setText($("exercise-check"), sentence);
     const all = told !== undefined && cases.length > 1 ? told : [];
     $("exercise-cases").replaceChildren(...all.map((each, at) => makeCase(each, at, names)));
   }

@@ -119,6 +119,9 @@ function whyOfStack(machine, names) {
 
 /* The call by which a program ends, as a sentence names it, by the environment. */
 function exitCall({ environment }, names) {
+  if (environment.hasTraps) {
+    return `a store of ${hex(FINISHES)} to the finisher, at ${hex(DEVICE.FINISHER)}`;
+  }
   const number = Object.keys(environment.calls).find((call) =>
     /^exit$/i.test(environment.calls[call].name));
   return `the call ${environment.calls[number].name} (${names[environment.number]} = ${number})`;
@@ -172,6 +175,7 @@ const FAULT_SENTENCES = {
   },
   [FAULT.ECALL]({ address }, machine, names) {
     const { kit, environment } = machine;
+    if (environment.hasTraps) return `The ecall at ${hex(address)} goes to a handler.`;
     const number = kit.x[environment.number];
     const register = names[environment.number];
     const meant = callsMeant({ reason: "fault", kind: FAULT.ECALL }, machine);
@@ -201,52 +205,64 @@ const FAULT_NAMES = {
 /** The name of the environment whose call an `ecall` seems to make that the chosen one does not
  * serve, or null. */
 function callsMeant(end, { kit, environment }) {
-  if (end.reason !== "fault" || end.kind !== FAULT.ECALL) return null;
+  if (end.reason !== "fault" || end.kind !== FAULT.ECALL || environment.hasTraps) return null;
   const isMeant = (other) => other !== environment && other.calls[kit.x[other.number]] !== undefined
     && (other.number === REGISTER.A7 || kit.x[REGISTER.A7] === 0);
   return Object.keys(ENVIRONMENTS).find((name) => isMeant(ENVIRONMENTS[name])) ?? null;
 }
 
+/* What is told where machine mode has no handler for an exception, and else "". */
+const noHandler = ({ environment }, { isCode }) => (environment.hasTraps && !isCode
+  ? "There is no handler: mtvec was never set. " : "");
+
+/* Of each end its heading, its sentence, and which kind of news it is. */
+const EXPLAINED = {
+  fault: (end, machine, names) => ({
+    heading: FAULT_NAMES[end.kind],
+    sentence: `${FAULT_SENTENCES[end.kind](end, machine, names)} ${noHandler(machine, end)}`
+      + "Nothing was changed by it.",
+    // a program may ask to stop, but where a handler should serve its ebreak
+    kind: end.kind === FAULT.EBREAK && !machine.environment.hasTraps ? "done" : "end",
+  }),
+  "no handler": (end, machine) => ({
+    heading: "Interrupt",
+    sentence: `An interrupt came before ${hex(machine.kit.pc)}. ${noHandler(machine, end)}`.trim(),
+    kind: "end",
+  }),
+  asleep: (end, machine) => ({
+    heading: "Waiting for ever",
+    sentence: `The wfi at ${hex(machine.kit.pc)} waits for an interrupt, and none can come: mie `
+      + "does not enable that of the timer, or no alarm is set.",
+    kind: "end",
+  }),
+  returned: (end, machine, names) => ({
+    heading: "Return of main",
+    sentence: `The ret at ${hex(machine.kit.pc)} has nowhere to go: ${names[REGISTER.RA]} is 0, `
+      + `since nothing called main. A program ends by ${exitCall(machine, names)}.`,
+    kind: "end",
+  }),
+  refused: (end, machine) => ({
+    heading: "Call refused",
+    sentence: `The ecall at ${hex(machine.kit.pc)} could not be served: ${end.why}.`,
+    kind: "end",
+  }),
+  exit: (end, machine) => ({
+    heading: "Exit",
+    sentence: `The program ended by the ${end.by ?? "ecall"} at ${hex(machine.kit.pc)}, with `
+      + `status ${end.status}.`,
+    kind: "done",
+  }),
+  waiting: () => ({
+    heading: "Waiting for input",
+    sentence: "The program reads from the console. Type a line there, or end the input.",
+    kind: "wait",
+  }),
+};
+
 /** A heading and a sentence for why the machine stands where it stands, and which kind of news that
- * is: a fault is an "end", exit is "done", and "wait" is none, since the program can go on. */
-function explain(end, machine, names) {
-  switch (end.reason) {
-    case "fault":
-      return {
-        heading: FAULT_NAMES[end.kind],
-        sentence: `${FAULT_SENTENCES[end.kind](end, machine, names)} Nothing was changed by it.`,
-        kind: "end",
-      };
-    case "returned":
-      return {
-        heading: "Return of main",
-        sentence: `The ret at ${hex(machine.kit.pc)} has nowhere to go: ${names[REGISTER.RA]} is 0, `
-          + `since nothing called main. A program ends by ${exitCall(machine, names)}.`,
-        kind: "end",
-      };
-    case "refused":
-      return {
-        heading: "Call refused",
-        sentence: `The ecall at ${hex(machine.kit.pc)} could not be served: ${end.why}.`,
-        kind: "end",
-      };
-    case "exit":
-      return {
-        heading: "Exit",
-        sentence: `The program ended by the ecall at ${hex(machine.kit.pc)}, with status `
-          + `${end.status}.`,
-        kind: "done",
-      };
-    case "waiting":
-      return {
-        heading: "Waiting for input",
-        sentence: "The program reads from the console. Type a line there, or end the input.",
-        kind: "wait",
-      };
-    default:
-      throw new Error(`no such end: ${end.reason}`);
-  }
-}
+ * is: a fault is an "end", exit and ebreak are "done", and "wait" is none, since the program can go
+ * on. */
+const explain = (end, machine, names) => EXPLAINED[end.reason](end, machine, names);
 
 /** What a step did, as `t0 = 0x0000002a`, from its record. */
 function effectOf(record, names) {
@@ -254,6 +270,10 @@ function effectOf(record, names) {
   const value = `0x${hexOf(record.value, 2 * bytesOf(record.word))}`;
   if (record.madeBy === MADE_BY.CALL) {
     return written ? `${record.extra.name}, ${written}` : record.extra.name;
+  }
+  if (record.madeBy === MADE_BY.TRAP) {
+    const { cause, changed } = record.extra;
+    return [cause, written, changed].filter((part) => part).join(", ");
   }
   if (record.writeMask) return `[${hex(record.address)}] ← ${value}`;
   if (record.readMask) return `${written || value} ← [${hex(record.address)}]`;

@@ -50,10 +50,11 @@ class Work {
    * elsewhere and is kept from now on. */
   begin({ example = "", own }) {
     this.own = own;
-    const { exercise, number } = this.page.lesson;
-    if (exercise) this.keeping.write("latest", { lesson: number });
+    const { exercise, number, lesson } = this.page.lesson;
+    const isOwn = lesson?.handedIn === undefined;
+    if (exercise && isOwn) this.keeping.write("latest", { lesson: number });
     else if (example) this.keeping.write("latest", { example });
-    else this.keepProgram();
+    else if (!exercise) this.keepProgram();
     this.show();
   }
 
@@ -92,12 +93,14 @@ class Work {
     this.page.fillOwn();
   }
 
-  /** Keeps the lesson, with what was tried and solved of it. */
+  /** Keeps the lesson, with what was tried and solved of it. What others have handed in is not kept
+   * in the place of one's own. */
   keepLesson() {
     const { lesson, number, exercise } = this.page.lesson;
     if (!exercise) return;
     const { text, title, exercises } = lesson;
     exercise.tried = { text: this.page.editor.text, language: this.page.editor.language };
+    if (lesson.handedIn !== undefined) return;
     const entry = {
       text, title,
       exercises: exercises.map(({ tried, isSolved, tries }) => ({ tried, isSolved, tries })),
@@ -129,8 +132,6 @@ class Work {
   /** Saves the tries of the lesson as a file. */
   handIn() {
     const { lesson } = this.page.lesson;
-    if (lesson === null) return;
-    this.keepLesson();
     const name = fileNameOf(lesson.title, "assembly").replace(/\.s$/, ".handed-in.txt");
     saveFile(handedIn(lesson), name);
     for (const exercise of lesson.exercises) this.unsaved.delete(exercise);

@@ -14,6 +14,7 @@ import time
 from trials.chromium import Failed
 
 NAMES = ("firefox-esr", "firefox")
+SHIFT = "\ue008"
 
 PREFERENCES = {
     "marionette.port": 0, "browser.shell.checkDefaultBrowser": False,
@@ -115,7 +116,11 @@ class Firefox:
 
     def press(self, *keys):
         """Presses keys one after another, as a keyboard does."""
-        actions = [{"type": kind, "value": key} for key in keys for kind in ("keyDown", "keyUp")]
+        actions = []
+        for key in keys:
+            held = [SHIFT] if key.isupper() else []
+            actions += [{"type": "keyDown", "value": value} for value in (*held, key)]
+            actions += [{"type": "keyUp", "value": value} for value in (key, *held)]
         self.send("WebDriver:PerformActions",
                   actions=[{"type": "key", "id": "keyboard", "actions": actions}])
 

@@ -6,7 +6,7 @@ import tempfile
 
 from trials.report import same
 from trials.teaching import CURRENT, LESSON, MISTAKES
-from trials.view import FORGET, Subject, js, opened
+from trials.view import FORGET, Subject, opened
 
 TEXT = "document.getElementById('text').value"
 ASKED = "Page.javascriptDialogOpening"
@@ -105,6 +105,18 @@ def lesson_stays(browser):
     same("what was tried of the first", text, page.ask("rrs.session.text"))
     page.ask("history.replaceState(null, '', location.pathname); rrs.openExample('sum')")
     same("the menu", ["Lesson: Loops"], page.ask(KEPT))
+    # of an earlier page: this one refuses it
+    page.ask("""(() => {
+        const [lesson] = rrs.work.keeping.all("lessons");
+        const text = lesson.text.replace("program:", "x");
+        rrs.work.keeping.write("lessons", [{ ...lesson, text }]);
+        rrs.work.keeping.write("latest", { lesson: 1 });
+    })()""")
+    reopen(machine)
+    same("a lesson that this page refuses", True, page.ask("$('lesson').hidden"))
+    machine.says("Ready")
+    page.ask("rrs.openChoice('lesson 0')")
+    page.wait("$('heading').textContent === 'Not opened'")
     page.send("Page.close")
 
 

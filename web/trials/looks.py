@@ -168,6 +168,9 @@ def focus(machine):
     page = machine.page
     machine.choose("three")
     page.ask("(() => { document.activeElement.blur(); getSelection().removeAllRanges(); })()")
+    # the header, and not the buttons that stay above where the page is scrolled
+    page.ask("scrollTo(0, 0)")
+    page.wait("document.elementFromPoint(3, 3).closest('header') !== null", 5)
     page.click_at([3, 3])
     same("the order of the focus", FOCUS_ORDER, tab_order(page))
     page.ask("$('more').open = true; $('more').firstElementChild.focus()")
@@ -243,7 +246,9 @@ def show_all(machine):
     machine.leave_fields()
     page.ask("$('more').open = false; rrs.work.isFull = true; rrs.work.show(); null")
     yield "no room"
-    page.ask("rrs.work.isFull = false; rrs.work.show(); null")
+    page.ask("rrs.work.isFull = false; rrs.work.show(); rrs.openExample('interrupts')")
+    machine.run()
+    yield "machine mode"
     machine.give(LESSON)
     page.wait("!document.getElementById('lesson').hidden")
     yield "lesson"
@@ -257,6 +262,10 @@ def show_all(machine):
     page.wait("document.querySelectorAll('#exercise-cases li').length === 3")
     page.ask("rrs.lesson.exercise.told[0].misses = byNames(() => []); rrs.lesson.show()")
     yield "cases and hints"
+    page.press("D")
+    page.wait("document.querySelector('#shared').open")
+    yield "hand in"
+    machine.escape()
     machine.choose("convention")
     machine.run()
     for panel in ("frames", "log", "counts"):
@@ -321,7 +330,7 @@ def write(machine):
     (EXPECTED / "looks.txt").write_text("\n".join([*lines, ""]), encoding="utf-8")
 
 
-LOOKED_AT = 131
+LOOKED_AT = 132
 
 # ---- boxes and marks
 
@@ -382,6 +391,9 @@ def boxes(machine):
             page.prefer(dark)
             same(f"the marks at {width}, {'dark' if dark else 'light'}", WANTED_MARKS,
                  page.ask(f"{SEEN}.marks()"))
+        same(f"menus in which one can't read at {width}", [], page.ask(
+            "[...document.querySelectorAll('select')].filter((menu) => menu.checkVisibility() &&"
+            " parseFloat(getComputedStyle(menu).fontSize) < 10).map(({ id }) => id)"))
         for _ in range(4):
             same(f"the boxes at {width}", ALL_IN_PLACE, page.ask(f"{SEEN}.boxes()"))
             machine.keys("n")

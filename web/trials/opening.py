@@ -56,7 +56,7 @@ def files(machine):
         machine.choose("gcd")
         machine.give(folder / "long.bin")
         machine.says("Not opened", "long.bin was not opened. It has 65,540 bytes, and the memory "
-                     "has 65,536. A larger memory can be chosen at Machine.")
+                     "has 65,536. A larger memory can be chosen under More.")
         same("line 0, of what was open", WHAT_IS_OPEN, machine.line(0)[2])
         machine.give(folder / "empty.bin")
         machine.says("Not opened", "empty.bin is empty.")

@@ -532,8 +532,58 @@ def addresses(machine):
     same("no page behind the last", last, machine.rows("memory")[0][0])
 
 
+CSRS = "Object.fromEntries([...$('csrs').children].map(({ children: [name, value] }) =>" \
+    " [name.textContent, value.textContent]))"
+
+
+def machine_mode(machine):
+    """machine mode: a timer interrupts the example, CSRs are shown, and steps back take traps back"""
+    page = machine.page
+    machine.choose("three")
+    same("whether CSRs are shown in other programs", False, page.ask("$('csrs').checkVisibility()"))
+    page.ask("rrs.openExample('interrupts')")
+    machine.leave_fields()
+    same("what is shown at first", [True, "machine mode", {"0x00000000"}], [
+        page.ask("$('csrs').checkVisibility()"),
+        page.ask("$('calls').selectedOptions[0].textContent"), set(page.ask(CSRS).values())])
+    machine.keys("sss")
+    machine.says("Step 3", "csrrw zero, mtvec, t0: mtvec = 0x0000002c")
+    same("a line, with its macro", "csrrw zero, mtvec, t0", page.ask(
+        "document.querySelector('#line-2 .instruction').textContent"))
+    page.ask("rrs.session.toggleBreakpoint(rrs.session.addressOf('handler') / 4)")
+    machine.run()
+    machine.says("Breakpoint")
+    same("the CSRs at the handler", {
+        "mstatus": "0x00000080", "mtvec": "0x0000002c", "mie": "0x00000080", "mip": "0x00000080",
+        "mepc": "0x00000024", "mcause": "0x80000007", "mtval": "0x00000000",
+        "mscratch": "0x00000000", "time": "0x0000003b"}, page.ask(CSRS))
+    same("the log", ["trap", "timer interrupt, mstatus = 0x00000080, mepc = 0x00000024, mcause = "
+                     "0x80000007"], machine.rows("log")[0][2:])
+    machine.keys("b")
+    same("the CSRs a step before", ["0x00000000", "0x00000008"], [
+        page.ask(CSRS)[name] for name in ("mcause", "mstatus")])
+    machine.keys("s")
+    machine.says("Step 60", "trap: timer interrupt, mstatus = 0x00000080, mepc = 0x00000024, mcause = "
+                 "0x80000007")
+    page.ask("rrs.session.toggleBreakpoint(rrs.session.addressOf('handler') / 4)")
+    machine.run()
+    machine.says("Exit", "The program ended by the store at 0x0000007c, with status 0.")
+    same("what it prints", "12345", page.text("#output"))
+    machine.keys("?")
+    same("what Help tells", ["0x00100000", "finisher", "ends, where 0x5555 is stored"],
+         machine.rows("call-table")[1])
+    machine.escape()
+    machine.run("B")
+    same("at the start", {"0x00000000"}, set(page.ask(CSRS).values()))
+    machine.keys("s")
+    page.choose("#calls", "rars")
+    same("where it is left the program begins anew", ["0 steps", False], [
+        page.text("#steps"), page.ask("$('csrs').checkVisibility()")])
+    machine.leave_fields()
+
+
 TRIALS = [
     three_words, registers, radixes_and_counts, console, end_of_input, stops, clicks_on_lines,
     memory, addresses, long_listing, long_output, pace, pace_of_writes, c_programs, calls_as_proved,
-    million_steps, more_than_is_kept,
+    million_steps, more_than_is_kept, machine_mode,
 ]

@@ -7,7 +7,7 @@ import tempfile
 
 from trials.opening import executable
 from trials.report import same
-from trials.view import SIZE, WEB, js
+from trials.view import WEB, js
 
 LESSON = WEB.parent / "examples" / "lesson" / "loops.txt"
 SOURCE = "main: li a0, 0x12345  # a number\n  call twice\n  ebreak\n.data\nx: .word 7\n.text\n" \
@@ -284,6 +284,22 @@ def lesson(machine):
     machine.run()
     same("solved", ["check done", "Solved.", "1 of 3 solved"],
          [page.ask(CHECK), page.text("#exercise-check"), page.text("#lesson-solved")])
+    machine.keys("e")
+    page.ask("$('text').value += '\\nfoo'; $('text').dispatchEvent(new Event('input')); null")
+    page.click("[data-action=check]")
+    same("no verdict of before beside a mistake", [
+        "check end", "Not checked: line 14 has a mistake.", "1 of 3 solved"],
+        [page.ask(CHECK), page.text("#exercise-check"), page.text("#lesson-solved")])
+    page.ask("rrs.lesson.exercise.limit = 1e8; null")
+    page.replace("#text", "l: j l")
+    page.click("[data-action=check]")
+    same("nor while it is checked", ["check ", "It is being checked."],
+         [page.ask(CHECK), page.text("#exercise-check")])
+    page.ask("rrs.lesson.exercise.limit = 1e6; null")
+    machine.keys("e")
+    page.replace("#text", text.replace("ebreak", loop))
+    page.click("[data-action=check]")
+    page.wait("$('exercise-check').textContent === 'Solved.'")
     same("what is said of the exercises", ["solved", "not solved yet", "not solved yet"], page.ask(
         "[...document.querySelectorAll('#exercises a')].map((link) => link.ariaDescription)"))
     page.click("#exercises li:nth-child(2) a")
@@ -332,6 +348,21 @@ def lesson(machine):
         machine.give(path)
         machine.says("Not opened", 'wrong.txt was not opened. Line 3: the output stands in '
                      'quotation marks, as "31\\n"')
+        path.write_text("lesson: a\nexercise: b\nregister: a0 = 1\nmemory: n = 1\nprogram:\nnop\n")
+        machine.give(path)
+        machine.says("Not opened", "wrong.txt was not opened. Line 4: the program to begin with "
+                     "has no label n")
+        path.write_text("lesson: a\nexercise: b\nregister: a0 = 5\nmemory: n = 5\nprogram:\n"
+                        "lw a0, n\nebreak\n.data\nn: .word 1\n")
+        machine.give(path)
+        seen = []
+        for change in (lambda: None, lambda: machine.choose_preset("1"),
+                       lambda: machine.edit("lw a0, n\nebreak\n.data\nm: .word 3\nn: .word 2\n")):
+            change()
+            machine.leave_fields()
+            machine.run()
+            seen.append(machine.register("x10"))
+        same("the memory of the first case, in a run", 3 * ["0x00000005"], seen)
         path.write_text('lesson:\nexercise:\noutput: "a"\nprogram:\n  nop\n')
         machine.give(path)
         page.wait("!document.getElementById('lesson').hidden")
@@ -450,6 +481,9 @@ HANDED_IN = {
 FUNCTIONS = LESSON.with_name("functions.txt")
 
 
+USAGE = "usage: web/grade LESSON EXERCISE FILE .., where EXERCISE is a number, a title, or all"
+
+
 def grade(*words):
     run = subprocess.run([WEB / "grade", *words], capture_output=True, text=True, check=False)
     return run.returncode, run.stdout.splitlines(), run.stderr.strip()
@@ -477,6 +511,8 @@ def graded():
         same("of a program without an end", "  case 1: It has not ended after 1,000 steps.", lines[1])
         _, lines, _ = grade(FUNCTIONS, "4", folder / "jon.s")
         same("a remark", True, any(line.startswith("  remark: fact leaves s0 changed") for line in lines))
+        one = folder / "one.txt"
+        one.write_text(FUNCTIONS.read_text().split("exercise: The greatest")[0])
         handed = folder / "handed.txt"
         handed.write_text("handed in: L\n\nexercise 1: Twice a number\ntry: 0 of 3 right\n| nop\n"
                           "try: 3 of 3 right\n" + "".join(f"| {line}\n" for line in
@@ -487,11 +523,34 @@ def graded():
         same("what can't be read", [f"{folder / 'bad.s'}: not read: Line 1: no such instruction or "
                                     "directive: foo"], grade(FUNCTIONS, "1", folder / "bad.s")[1])
         (folder / "heading.txt").write_text("# Week 1\n" + FUNCTIONS.read_text())
+        (folder / "label.txt").write_text(
+            FUNCTIONS.read_text().replace("y: numbers = 1", "y: number = 1"))
+        same("its status", 1, grade(FUNCTIONS, "1", folder / "bad.s")[0])
+        same("all exercises", (1, [
+            f"{handed}: exercise 1: right, 3 of 3 cases, the latest of 2 tries",
+            *(f"{handed}: exercise {number}: nothing was handed in" for number in range(2, 6)),
+            f"{handed}: 1 of 5 exercises are right"], ""), grade(FUNCTIONS, "all", handed))
+        same("all exercises of a lesson of one", (0, [
+            f"{handed}: exercise 1: right, 3 of 3 cases, the latest of 2 tries",
+            f"{handed}: 1 of 1 exercises are right"], ""), grade(one, "all", handed))
+        same("what is graded beside a file that is not there", (
+            2, [f"{folder / 'ada.s'}: right, 3 of 3 cases",
+                f"{folder / 'cem.s'}: not right, 1 of 3 cases"],
+            f"web/grade: {folder / 'none.s'}: no such file"), (lambda got: (
+                got[0], [line for line in got[1] if line[0] != " "], got[2]))(
+                    grade(FUNCTIONS, "1", folder / "ada.s", folder / "none.s", folder / "cem.s")))
+        same("help", (0, [USAGE], ""), grade("--help"))
         for words, why in (
-            ((FUNCTIONS, "9", folder / "ada.s"), f"web/grade: {FUNCTIONS} has no exercise 9"),
+            ((FUNCTIONS, "9", folder / "ada.s"), f"web/grade: {FUNCTIONS} has no exercise 9: it "
+             "has 1 (Twice a number), 2 (The greatest number), 3 (Capital letters), 4 (Factorial by "
+             "recursion), 5 (Find the mistakes)"),
             ((folder / "heading.txt", "1", folder / "ada.s"), f"web/grade: {folder / 'heading.txt'}: A "
              "lesson begins with its line lesson: and this one has other lines above it."),
-            ((FUNCTIONS, "1"), "web/grade: usage: web/grade LESSON EXERCISE FILE .."),
+            ((folder / "label.txt", "1", folder / "ada.s"), f"web/grade: {folder / 'label.txt'}: "
+             "Line 40: the program to begin with has no label number"),
+            ((FUNCTIONS, "1"), f"web/grade: {USAGE}"),
+            ((FUNCTIONS, "all", folder / "ada.s"), f"web/grade: {folder / 'ada.s'}: a source "
+             "belongs to one exercise: give its number"),
             ((FUNCTIONS, "1", folder / "none.s"), f"web/grade: {folder / 'none.s'}: no such file"),
         ):
             same("what is refused", (2, why), (lambda got: (got[0], got[2]))(grade(*words)))
@@ -502,47 +561,129 @@ SOLVED = {number: text for number, text, grade in HANDED_IN.values() if grade.st
 CASES = "[...document.querySelectorAll('#exercise-cases li')].map((item) => item.textContent)"
 
 
-def lesson_of_cases(machine):
-    """a lesson of five exercises with cases and hints is worked through by keys, and handed in"""
-    page = machine.page
+HANDED_IN_NAME = "Functions-arrays-and-strings.handed-in.txt"
+
+
+def open_functions(machine):
     machine.give(FUNCTIONS)
-    page.wait("!document.getElementById('lesson').hidden")
+    machine.page.wait("!document.getElementById('lesson').hidden")
+
+
+def go_to_exercise(machine, number):
+    """Goes to an exercise by keys alone."""
+    page = machine.page
+    machine.keys("j")
+    for _ in range(5):
+        if page.ask(f"document.activeElement.hash?.endsWith('exercise={number}')"):
+            break
+        page.press("Tab", *(["Shift"] if page.ask(f"rrs.lesson.number > {number}") else []))
+    page.press("Enter")
+    page.wait(f"rrs.lesson.number === {number}")
+
+
+def write_and_judge(machine, text):
+    """Writes a program, has it run, and waits for its verdict. One without an end is paused, and
+    checked."""
+    page = machine.page
+    page.ask("rrs.lesson.exercise.told = undefined; null")
+    start_text(machine, text)
+    if text == HANDED_IN["lea"][1]:
+        page.wait("rrs.session.machine.steps > 1000")
+        machine.keys("pC")
+    page.wait("rrs.lesson.exercise.told && !rrs.session.isRunning")
+
+
+def hand_in(machine, folder, name=HANDED_IN_NAME):
+    """Hands in what was tried, by keys alone, as a file. Answers its path, and the link."""
+    page = machine.page
+    path = pathlib.Path(folder) / name
+    page.browser.send("Browser.setDownloadBehavior", behavior="allow", downloadPath=folder)
+    machine.leave_fields()
+    machine.keys("D")
+    page.wait("$('shared').open")
+    link = page.ask("$('link').value")
+    page.press("Enter")
+    page.browser.patience(path.exists)
+    page.wait("!$('shared').open")
+    return path, link
+
+
+def lesson_of_cases(machine):
+    """twelve programs are written by keys, handed in by the page, and graded: wrong cases are found"""
+    page = machine.page
+    open_functions(machine)
     same("the text of an exercise", [["P", "P", "PRE", "P"], "ecall", "Ctrl+Enter"], page.ask(
         "[[...$('exercise-about').children].map(({ tagName }) => tagName),"
         " $('exercise-about').querySelector('pre').textContent.split('\\n')[1],"
         " $('exercise-about').querySelector('code').textContent]"))
+    with tempfile.TemporaryDirectory() as name:
+        for student, (number, text, _) in HANDED_IN.items():
+            go_to_exercise(machine, number)
+            write_and_judge(machine, text)
+            if student == "cem":
+                same("what is told of the cases", [
+                    "five: right", 'nothing: The output is "10", and "0" is expected. The case has '
+                    'the input "0\\n".',
+                    "below zero: not right (its input is hidden)"], page.ask(CASES))
+            hand_in(machine, name)[0].rename(pathlib.Path(name) / f"{student}.txt")
+        same("what is solved", "5 of 5 solved", page.text("#lesson-solved"))
+        for number in range(1, 6):
+            students = [each for each, (of, *_) in HANDED_IN.items() if of == number]
+            paths = [pathlib.Path(name) / f"{each}.txt" for each in students]
+            _, lines, _ = grade(FUNCTIONS, str(number), *paths)
+            same(f"the grades of exercise {number}", [
+                f"{path}: {HANDED_IN[path.stem][2]}, the latest of {at + 1} "
+                f"{'try' if at == 0 else 'tries'}" for at, path in enumerate(paths)],
+                [line for line in lines if not line.startswith(" ")])
+    machine.leave_fields()
+    machine.keys("q")
+
+
+# what of a phone's screen is in view, where a program was run: a part of the page, and the verdict
+VERDICT_IN_VIEW = """(() => {
+    const { top, bottom } = $("exercise-check").getBoundingClientRect();
+    return 0 <= top && bottom <= innerHeight;
+})()"""
+
+
+def lesson_on_a_phone(machine):
+    """on a phone's width a lesson of five exercises is worked through by keys, and handed in"""
+    page = machine.page
+    page.send("Emulation.setDeviceMetricsOverride", width=360, height=740, deviceScaleFactor=1,
+              mobile=True)
+    open_functions(machine)
     machine.keys("H")
     same("a hint", ["add a0, a0, a0 doubles a0."], page.ask(
         "[...document.querySelectorAll('#exercise-hints li')].map((item) => item.textContent)"))
-    write_text(machine, HANDED_IN["cem"][1])
-    page.wait("$('exercise-check').textContent.startsWith('1 of 3')")
-    same("what is told of the cases", [
-        "five: right", 'nothing: The output is "10", and "0" is expected.',
-        "below zero: not right (its input is hidden)"], page.ask(CASES))
+    write_and_judge(machine, HANDED_IN["cem"][1])
+    same("a wrong try", "1 of 3 cases are right.", page.text("#exercise-check"))
     for number in range(1, 6):
-        if number > 1:
-            machine.keys("j")
-            page.press("Tab")
-            page.press("Enter")
-            page.wait(f"rrs.lesson.number === {number}")
-        write_text(machine, SOLVED[number])
-        page.wait(f"$('lesson-solved').textContent === '{number} of 5 solved'")
-    same("the verdict", "check done", page.ask(CHECK))
+        go_to_exercise(machine, number)
+        write_and_judge(machine, SOLVED[number])
+        same(f"exercise {number}", [f"{number} of 5 solved", "check done", True, True], [
+            page.text("#lesson-solved"), page.ask(CHECK), page.ask(VERDICT_IN_VIEW),
+            page.ask("document.documentElement.scrollWidth <= innerWidth")])
     with tempfile.TemporaryDirectory() as name:
-        page.browser.send("Browser.setDownloadBehavior", behavior="allow", downloadPath=name)
-        machine.leave_fields()
-        machine.keys("D")
-        path = pathlib.Path(name) / "Functions-arrays-and-strings.handed-in.txt"
-        page.browser.patience(path.exists)
-        same("what is handed in of the first", (0, [
-            f"{path}: right, 3 of 3 cases, the latest of 2 tries"]), grade(FUNCTIONS, "1", path)[:2])
-    page.send("Emulation.setDeviceMetricsOverride", width=360, height=740, deviceScaleFactor=1,
-              mobile=True)
-    same("whether it is as wide as a phone", True, page.ask(
-        "document.documentElement.scrollWidth <= innerWidth"))
-    page.resize(*SIZE)
-    machine.leave_fields()
-    machine.keys("q")
+        path, link = hand_in(machine, name)
+        wanted = "right, 3 of 3 cases, the latest of 2 tries"
+        same("its file", (0, [f"{path}: {wanted}"]), grade(FUNCTIONS, "1", path)[:2])
+        path.write_text(f"{link}\n")
+        same("its link, in a file and alone", (0, [f"{path}: {wanted}", f"the link: {wanted}"]),
+             grade(FUNCTIONS, "1", path, link)[:2])
+        cut = link.replace("handed-in=", "handed-in=!")
+        same("a link that is damaged", [1, [
+            "the link: not read: The link is damaged: its program can't be read."]],
+            list(grade(FUNCTIONS, "1", cut)[:2]))
+    machine.choose("three")
+    kept = page.ask("localStorage['rrs.lessons']")
+    page.ask(f"location.hash = {js(link.split('#', 1)[1] + '&exercise=3')}")
+    page.wait("!document.getElementById('lesson').hidden")
+    same("what one sees who opens the link", ["5 of 5 solved, as it was handed in", 3, True], [
+        page.text("#lesson-solved"), page.ask("rrs.lesson.number"),
+        page.ask(f"rrs.session.text === {js(SOLVED[3])}")])
+    write_and_judge(machine, SOLVED[3] + "# seen\n")
+    same("and that it is not kept in the place of one's own", True, page.ask(
+        f"localStorage['rrs.lessons'] === {js(kept)}"))
 
 
 def first_lesson(machine):
@@ -560,17 +701,20 @@ def first_lesson(machine):
         page.wait("$('lesson-title').textContent === 'My lesson'")
         write_text(machine, READ + " mv t0, a0\n ecall\n add a0, a0, t0\n" + PRINT)
         page.wait("$('lesson-solved').textContent === '1 of 2 solved'")
-        machine.leave_fields()
-        machine.keys("D")
-        handed = pathlib.Path(name) / "My-lesson.handed-in.txt"
-        page.browser.patience(handed.exists)
-        same("its grade", (0, [f"{handed}: right, 2 of 2 cases, the latest of 1 tries"]),
+        handed = hand_in(machine, name, "My-lesson.handed-in.txt")[0]
+        same("its grade", (0, [f"{handed}: right, 2 of 2 cases, the latest of 1 try"]),
              grade(path, "1", handed)[:2])
     machine.keys("q")
 
 
 def write_text(machine, text):
-    """Writes a program, and has it run, by keys alone."""
+    """Writes a program, and has it run to its end, by keys alone."""
+    start_text(machine, text)
+    machine.page.wait("!rrs.session.isRunning")
+
+
+def start_text(machine, text):
+    """Writes a program, and has it begin to run, by keys alone."""
     page = machine.page
     page.press("e")
     page.wait("document.activeElement.id === 'text'")
@@ -579,7 +723,7 @@ def write_text(machine, text):
               windowsVirtualKeyCode=65, commands=["selectAll"])
     page.type(text)
     page.press("Enter", "Ctrl")
-    page.wait("!rrs.session.isRunning && document.getElementById('editor').hidden")
+    page.wait("document.getElementById('editor').hidden")
 
 
 REMARKS = "[...document.querySelectorAll('#remarks li')].map((item) => item.textContent)"
@@ -611,3 +755,6 @@ TRIALS = [
     assembly, while_one_types, long_sources, beside_scroll_bars, language_of_a_text,
     assembly_from_elsewhere, lesson, first_lesson, drafts, misses_by_names, convention,
 ]
+
+# those that are given a page that no other trial has
+APART = [lesson_of_cases, lesson_on_a_phone]

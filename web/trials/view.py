@@ -136,6 +136,8 @@ class Machine:
 CLEAN = """(() => {
     rrs.session.stop();
     for (const dialog of document.querySelectorAll("dialog[open]")) dialog.close();
+    rrs.closeLesson();
+    rrs.work.clear();
     rrs.editor.close();
     $("settings").open = false;
     rrs.work.unsaved.clear();

@@ -28,6 +28,17 @@ IN_NODE = [
     ("terminal.js", "Object.assign(this, mark);", ""),
     ("kit.js", "const first = this.at.texts + start;", "const first = this.at.texts;"),
     ("assembly.js", "subarray(0, byte - 1)", "subarray(0, byte)"),
+    ("assembly.js", 'line.includes("%") ||', "false &&"),
+    ("lesson.js", "exercise.now.registers.filter(([other]) => other !== register)",
+     "exercise.now.registers"),
+    ("lesson.js", "/^\\s*(hidden|hidden[", "/^\\s*(hidden["),
+    ("lesson.js", "if (!exercise?.first ||", "if (true ||"),
+    ("lesson.js", "sayOnce(exercise.now.said, NAMES.abi[register], line);", ""),
+    ("lesson.js", "  refuseUnused(exercise);\n", ""),
+    ("traps.js", "if (kind === OUTCOME.WAITING) traps.time = Math.max(traps.time, traps.alarm);", ""),
+    ("traps.js", "this.time += by;", "this.time++;"),
+    ("machine.js", "if (extra?.cause !== undefined) return true;", ""),
+    ("machine.js", "(word >>> 28 & 3) << 8", "0"),
     ("convention.js", "if (after !== before && frame.isPlain)", "if (after < before)"),
     ("lesson.js", "if (value === wanted) continue;", "if (value >= wanted) continue;"),
     ("executable.js", "const start = at - where.distance;", "const start = at;"),
@@ -37,8 +48,9 @@ IN_NODE = [
     ("session.js", "&& depthOf(this.machine) > this.depth", ""),
     ("session.js", "Math.floor((now - this.nextAt) / each) + 1", "1"),
     ("wording.js", "if (!machine.hasStack && machine", "if (machine.hasStack && machine"),
-    ("lesson.js", "machine.kit.bytes.set(bytes, offset);", ""),
-    ("lesson.js", "if (isBelow && !isLesson(text))", "if (isBelow && isLesson(text))"),
+    ("lesson.js", "kit.bytes.set(memory.bytes, places.get(memory.label).offset);", "{}"),
+    ("lesson.js", "if (isLesson(text) || ", "if (!isLesson(text) || "),
+    ("lesson.js", "exercise.tries.some(", "exercise.tries.every("),
 ]
 IN_BROWSER = [
     (actions.by_each_way, "page.js", '"click", () => this.act(', '"click", () => void ('),
@@ -59,8 +71,11 @@ IN_BROWSER = [
     (looks.first_look, "style.css", ".menus {\n  display: flex;", ".menus {\n  display: block;"),
     (looks.one_screen, "style.css", "height: 100vh; height: 100dvh;", "height: 60rem;"),
     (looks.narrow, "style.css", "scroll-snap-type: x mandatory;", ""),
+    (looks.boxes, "style.css", "  .toolbar .speed select { font-size: 0.85rem; }\n", ""),
     (looks.twice_as_large, "style.css", "  .controls { position: static; }\n", ""),
     (teaching.lesson_of_cases, "views.js", "const why = isHidden ?", "const why = false ?"),
+    (teaching.lesson_of_cases, "page.js", '$("save-tries").focus();', ""),
+    (teaching.lesson_on_a_phone, "work.js", "if (lesson.handedIn !== undefined) return;", ""),
 ]
 
 # those that are given a browser, and no page

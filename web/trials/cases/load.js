@@ -6,7 +6,7 @@ const fs = require("node:fs");
 const path = require("node:path");
 
 const SCRIPTS = [
-  "kit", "terminal", "records", "actions", "machine", "linux", "calls", "frames", "convention",
+  "kit", "terminal", "records", "actions", "traps", "machine", "linux", "calls", "frames", "convention",
   "assembly", "colours", "program", "executable", "lesson", "examples", "wording", "keeping", "session",
   "views", "editor",
 ];

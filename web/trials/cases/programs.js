@@ -67,7 +67,7 @@ function files(report, page, kit) {
   const bytes = (...values) => Uint8Array.from(values);
   const written = (text) => new TextEncoder().encode(text);
   const tooLong = "It has 65,537 bytes, and the memory has 65,536. A larger memory can be chosen "
-    + "at Machine.";
+    + "under More.";
   const raw = bytes(0x37, 0xb1, 0x34, 0x12, 0x01);
   report.cases("the program of a file of some bytes", [
     [raw, "0x1234b137\n0x00000001\n"], [raw.subarray(0, 4), "0x1234b137\n"],
@@ -165,7 +165,8 @@ const ENDS = {
   hello: ["exit 0", "Hello\n"], sum: ["exit 0", "31"], max: ["exit 0", "42"], length: ["exit 0", "6"],
   factorial: ["exit 0", "120"], sort: ["exit 0", "1 1 2 3 4 5 6 9 "], list: ["exit 0", "10\n20\n30\n"],
   question: ["waiting", "A number, or 0 to end: "], port: ["exit 0", "Hello, RISC-V!\n"],
-  linux: ["exit 0", "Hello\n"], million: ["exit 0", ""], convention: ["exit 0", "0"],
+  interrupts: ["exit 0", "12345"], linux: ["exit 0", "Hello\n"], million: ["exit 0", ""],
+  convention: ["exit 0", "0"],
   words: ["exit 0", ""], recursion: ["fault STORE", ""], exit: ["fault ILLEGAL", ""],
   stack: ["fault STORE", ""], load: ["fault LOAD", ""], misaligned: ["fault MISALIGNED", ""],
   jump: ["fault FETCH", ""], code: ["fault STORE", ""], ecall: ["fault ECALL", ""],
@@ -174,7 +175,7 @@ const ENDS = {
 function examples(report, page, kit) {
   const { EXAMPLES, FAULT } = page;
   report.same("the programs of the menu", Object.keys(ENDS), EXAMPLES.map(({ id }) => id));
-  report.same("those that fault, last", Object.keys(ENDS).slice(13),
+  report.same("those that fault, last", Object.keys(ENDS).slice(14),
     EXAMPLES.filter(({ isFault }) => isFault).map(({ id }) => id));
   report.same("those of words", ["words"],
     EXAMPLES.filter(({ language }) => language === "words").map(({ id }) => id));
@@ -192,7 +193,7 @@ function examples(report, page, kit) {
       [[end.reason, end.status ?? kind].filter((part) => part !== undefined).join(" "),
         machine.terminal.text(100)]);
   }
-  report.same("sentences and names", [13, 21],
+  report.same("sentences and names", [14, 22],
     [EXAMPLES.filter(({ about }) => about.endsWith(".")).length,
       new Set(EXAMPLES.map(({ name }) => name)).size]);
 }

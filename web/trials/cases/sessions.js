@@ -54,8 +54,8 @@ function opening(report, over) {
     [{ base: 0xfff00004 }, at], [{ base: NaN }, at], [{ base: -4 }, at], [{ base: 2 }, at],
     [{ base: 1.5 }, at], [{ base: 0xfff00000 + 65536 }, at], [{ size: 65532 }, sizes],
     [{ size: NaN }, sizes], [{ size: 2097152 }, sizes], [{ size: 0 }, sizes],
-    [{ calls: "else" }, "The calls can be those of Linux, RARS, Venus."],
-    [{ calls: "toString" }, "The calls can be those of Linux, RARS, Venus."],
+    [{ calls: "else" }, "The calls can be those of Linux, RARS, Venus, machine mode."],
+    [{ calls: "toString" }, "The calls can be those of Linux, RARS, Venus, machine mode."],
     [{ text: "" }, "There is no word in it."], [{ base: 2, text: "" }, at],
   ], (options) => Report.refused(() => opened(over, [0x13], options)));
   const session = opened(over, "a: 13 # one\n13 b: 73", { base: 0x1000 });

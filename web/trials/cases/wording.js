@@ -153,7 +153,7 @@ function ends() {
     [[...odd, w.sh(5, -2, 8)], misaligned("stores", 2, "0x80000101")],
     [[w.addi(17, 0, 1000), w.ecall], call(1000)], [[w.addi(17, 0, -1), w.ecall], call(4294967295)],
     [[w.ebreak], ["Breakpoint instruction", "The program asked to stop, by the ebreak at "
-      + `0x80000000. ${NOTHING}`, "end"]],
+      + `0x80000000. ${NOTHING}`, "done"]],
     [[w.addi(17, 0, 93), w.addi(10, 0, -1), w.ecall], ["Exit", "The program ended by the ecall at "
       + "0x80000008, with status 255.", "done"]],
     [[w.lui(11, 0x80000000), w.addi(12, 0, 1), w.addi(17, 0, 63), w.ecall], ["Waiting for input",
@@ -168,6 +168,11 @@ function explanations(report, page, kit) {
     const { heading, sentence, kind } = page.explain(end, machine, page.NAMES.abi);
     return [heading, sentence, kind];
   });
+  const asked = machineWith(page, kit, [w.ebreak], 0x80000000);
+  const end = asked.run(99, new Uint8Array(16384));
+  asked.environment = page.ENVIRONMENTS.machine;
+  report.same("an ebreak for which machine mode has no handler", "end",
+    page.explain(end, asked, page.NAMES.abi).kind);
 }
 
 /* Sources that end by mistakes of beginners, and a part of what is said of each. */
