@@ -207,6 +207,7 @@ class Source:
         return self.lines
 
 
+SETS = re.compile(rb"\s*([A-Za-z_.$][\w.$]*)\s*=(?!=)")
 ALPHABET = [bytes([b]) for b in range(256) if b != 10]
 
 
@@ -221,6 +222,18 @@ def means_the_same(line):
     if BRANCH.match(line) and b"." not in statement:
         return False
     return not (ADDRESS.match(line) and b"first" not in statement and b"last" not in statement)
+
+
+def set_once(lines):
+    """The lines but for those that give a symbol a value again: docs/ASSEMBLY.md says what GNU as
+    does with such a symbol."""
+    names = set()
+    for line in lines:
+        found = SETS.match(line)
+        if not found or found[1] not in names:
+            yield line
+        if found:
+            names.add(found[1])
 
 
 def changed(source, count):
@@ -310,7 +323,7 @@ def main():
     if kind is None:
         print("\n".join(source.make(count)))
         return
-    lines = filter(means_the_same, kind(source, count))
+    lines = set_once(filter(means_the_same, kind(source, count)))
     whole = [b".equ constant, 12", b"first: nop", *lines, b"last: ret", b""]
     sys.stdout.buffer.write(b"\n".join(whole))
 
