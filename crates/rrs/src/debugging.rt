@@ -137,7 +137,7 @@ fn debug_executable<'f, 'a, R: Read, W: Write>(
     let loaded = load_process(alloc, program.file, &arguments, memory);
     let LoadedProcess { image, memory } = match loaded {
         Ok(process) => process,
-        Err(error) => return Err(no_image(path, error)),
+        Err(error) => return Err(no_image(path, program.file, error)),
     };
     debug_image(alloc, image, memory, program.input, state, link)
 }

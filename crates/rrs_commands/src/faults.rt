@@ -1,7 +1,7 @@
 //! What is said of a file that a subcommand can't use.
 
 use rrs_exec::ImageError;
-use rrs_run_commands::refusal::{FileFault, HostFault};
+use rrs_run_commands::refusal::{Advice, FileFault, HostFault};
 use std::fmt;
 
 /// What is wrong with a file, as a line on standard error has it after the file's path.
@@ -14,7 +14,10 @@ impl fmt::Display for ToldFault {
             FileFault::Host(fault) => f.write_str(reason_of(*fault)),
             FileFault::LargeSource => f.write_str("a source has at most 64 MiB"),
             FileFault::LargeProgram => f.write_str("a program has at most 256 MiB"),
-            FileFault::Image(error) => ToldImageError(*error).fmt(f),
+            FileFault::Image(error, advice) => {
+                ToldImageError(*error).fmt(f)?;
+                ToldAdvice(*advice).fmt(f)
+            }
             FileFault::IsElf => f.write_str("an ELF file: rrs exec runs it"),
             FileFault::TooLong(address) => {
                 write!(
@@ -79,3 +82,44 @@ impl fmt::Display for ToldImageError {
         }
     }
 }
+
+/// The names of machines that programs are made for, by `e_machine` of an ELF file.
+static MACHINES: [(u16, &str); 11] = [
+    (2, "SPARC"),
+    (3, "Intel 80386"),
+    (8, "MIPS"),
+    (20, "PowerPC"),
+    (21, "PowerPC64"),
+    (22, "S/390"),
+    (40, "Arm"),
+    (62, "x86-64"),
+    (183, "AArch64"),
+    (243, "RV64"),
+    (258, "LoongArch"),
+];
+
+/// What a file is, or what is to be done about it, after the refusal.
+#[derive(Clone, Copy)]
+struct ToldAdvice(Advice);
+
+impl fmt::Display for ToldAdvice {
+    fn fmt<W: fmt::Write>(&self, f: &mut fmt::Formatter<W>) -> fmt::Result {
+        match self.0 {
+            Advice::Nothing => Ok(()),
+            Advice::Compile => f.write_str(COMPILE),
+            Advice::Link => f.write_str(": link it"),
+            Advice::LinkFixed => f.write_str(": link it with -static -no-pie"),
+            Advice::Machine(machine) => {
+                for (number, name) in &MACHINES {
+                    if *number == machine {
+                        write!(f, ": a program for {name}")?;
+                    }
+                }
+                f.write_str(COMPILE)
+            }
+        }
+    }
+}
+
+/// How a program is compiled for this machine.
+const COMPILE: &str = ": compile it with -march=rv32im -mabi=ilp32";

@@ -7,3 +7,4 @@ pub mod Execution
 pub mod Words
 pub mod Options
 pub mod Requests
+pub mod Advice

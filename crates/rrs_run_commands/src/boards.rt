@@ -14,13 +14,13 @@ use std::rt::Files;
 const NOTHING_WAKES: u32 = 126;
 
 /// The refusal of firmware.
-fn refused(path: &str, error: BoardError) -> Refusal<'_> {
+fn refused<'a>(path: &'a str, file: &[u8], error: BoardError) -> Refusal<'a> {
     let error = match error {
         BoardError::Elf(error) => ImageError::Elf(error),
         BoardError::Refused(address) => ImageError::Refused(address),
         BoardError::OutOfMemory => ImageError::OutOfMemory,
     };
-    no_image(path, error)
+    no_image(path, file, error)
 }
 
 /// A board at reset, with firmware in its RAM of so many bytes, or of the usual 128 MiB.
@@ -38,7 +38,7 @@ pub fn board_of<'a, H: Files + AllocGlobal>(
     let bytes = bytes.min(most_memory(Task::Board));
     match Board::load(rt.alloc(), &file, (bytes / 4) as usize) {
         Ok(board) => Ok(board),
-        Err(error) => Err(refused(path, error)),
+        Err(error) => Err(refused(path, &file, error)),
     }
 }
 

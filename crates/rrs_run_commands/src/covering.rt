@@ -118,6 +118,6 @@ fn cover_code<'a, H: Files + Eprint + AllocGlobal, R: Read, W: Write, E: Write, 
             tell(rt, "rrs cover", file, &end);
             Ok(end.ending)
         }
-        Err(error) => Err(no_image(request.path(), error)),
+        Err(error) => Err(no_image(request.path(), file, error)),
     }
 }

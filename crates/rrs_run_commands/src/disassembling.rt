@@ -21,11 +21,11 @@ pub(crate) fn code_of<'a, 'f>(
 ) -> Result<Code<'f>, Refusal<'a>> {
     let program = match Executable::parse(file) {
         Ok(program) => program,
-        Err(error) => return Err(no_executable(path, error)),
+        Err(error) => return Err(no_executable(path, file, error)),
     };
     let symbols = match program.symbols() {
         Ok(symbols) => symbols,
-        Err(error) => return Err(no_executable(path, error)),
+        Err(error) => return Err(no_executable(path, file, error)),
     };
     match Code::new(alloc, file, &program, symbols) {
         Ok(code) => Ok(code),

@@ -138,11 +138,11 @@ pub fn list_file<'a, H: Files + AllocGlobal, O: Write>(
     let file = read_program(rt, path)?;
     let program = match Executable::parse(&file) {
         Ok(program) => program,
-        Err(error) => return Err(no_executable(path, error)),
+        Err(error) => return Err(no_executable(path, &file, error)),
     };
     let symbols = match program.symbols() {
         Ok(symbols) => symbols,
-        Err(error) => return Err(no_executable(path, error)),
+        Err(error) => return Err(no_executable(path, &file, error)),
     };
     let mut out = buffered(rt.alloc(), out)?;
     let written = write_listing(&mut out, &program, symbols);

@@ -69,7 +69,7 @@ pub fn execute_executable<
             tell(rt, "rrs exec", &file, &end);
             Ok(end.ending)
         }
-        Err(error) => Err(no_image(request.path(), error)),
+        Err(error) => Err(no_image(request.path(), &file, error)),
     }
 }
 

@@ -1,5 +1,8 @@
 //! Why a subcommand of `rrs` did not do what it was asked.
 
+ghost use Rattle.std.specs.Prelude.{◌≡◌};
+ghost use Rattle.rrs_run_commands.specs.Advice.{HasMachine, advice};
+
 use crate::options::Setting;
 use rrs_cli::command::Failure;
 use rrs_cli::fault::RunFault;
@@ -72,6 +75,21 @@ pub enum HostFault {
     Unknown,
 }
 
+/// What a file is that is refused, or what is to be done about it.
+#[derive(Clone, Copy)]
+pub enum Advice {
+    /// Nothing more is said.
+    Nothing,
+    /// It is to be compiled for this machine.
+    Compile,
+    /// It is to be linked.
+    Link,
+    /// It is to be linked to fixed addresses, with no library that is loaded at run time.
+    LinkFixed,
+    /// It is a program for the machine with this number.
+    Machine(u16),
+}
+
 /// What is wrong with a file.
 #[derive(Clone, Copy)]
 pub enum FileFault {
@@ -81,8 +99,8 @@ pub enum FileFault {
     LargeSource,
     /// The program has more bytes than are read.
     LargeProgram,
-    /// It can't be made a process, or the firmware of a board.
-    Image(ImageError),
+    /// It can't be made a process, or the firmware of a board, and what is to be done then.
+    Image(ImageError, Advice),
     /// It is an ELF file, and its bytes are not to be run as they stand.
     IsElf,
     /// Its bytes are more than the memory has, which ends at this address.
@@ -153,14 +171,33 @@ pub fn out_of_memory<'a>() -> Refusal<'a> {
     failed(RunFault::OutOfMemory)
 }
 
+/// What is said of a file that is refused, after the refusal.
+#[tactic(auto, unfolding(rrs_elf::specs::Numbers::half))]
+fn advice_of(file: &[u8], error: ImageError) -> Advice
+    ensures { HasMachine file.now → result ≡ advice file.now error }
+{
+    match error {
+        ImageError::Elf(ElfError::Class(_) | ElfError::Machine(_)) if file.len() >= 20 => {
+            Advice::Machine(u16::from(file[18]) + 256 * u16::from(file[19]))
+        }
+        ImageError::Elf(ElfError::CompressedCode | ElfError::FloatingPoint | ElfError::Embedded) =>
+            Advice::Compile,
+        ImageError::Elf(ElfError::NotExecutable(1)) => Advice::Link,
+        ImageError::Elf(ElfError::PositionIndependent | ElfError::Interpreter(_)) => {
+            Advice::LinkFixed
+        }
+        _ => Advice::Nothing,
+    }
+}
+
 /// The refusal of a file that is no executable.
-pub fn no_executable(path: &str, error: ElfError) -> Refusal<'_> {
-    no_image(path, ImageError::Elf(error))
+pub fn no_executable<'a>(path: &'a str, file: &[u8], error: ElfError) -> Refusal<'a> {
+    no_image(path, file, ImageError::Elf(error))
 }
 
 /// The refusal of a file that can't be made a process.
-pub fn no_image(path: &str, error: ImageError) -> Refusal<'_> {
-    Refusal::File(path, FileFault::Image(error))
+pub fn no_image<'a>(path: &'a str, file: &[u8], error: ImageError) -> Refusal<'a> {
+    Refusal::File(path, FileFault::Image(error, advice_of(file, error)))
 }
 
 /// An outcome, and where it was refused since something can't be read or written the name of that,

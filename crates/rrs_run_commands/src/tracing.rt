@@ -46,12 +46,12 @@ fn start_of<'a>(file: &[u8], request: Request<'a>) -> Result<Option<u32>, Refusa
     }
     let program = match Executable::parse(file) {
         Ok(program) => program,
-        Err(error) => return Err(no_executable(request.path(), error)),
+        Err(error) => return Err(no_executable(request.path(), file, error)),
     };
     let symbols = match program.symbols() {
         Ok(Some(symbols)) => symbols,
         Ok(None) => return Err(Refusal::NoAddress(word)),
-        Err(error) => return Err(no_executable(request.path(), error)),
+        Err(error) => return Err(no_executable(request.path(), file, error)),
     };
     match value_of(&symbols, word.as_bytes()) {
         Some(address) => Ok(Some(address)),
@@ -89,7 +89,7 @@ fn trace_to<'a, H: Eprint + AllocGlobal, R: Read, W: Write, E: Write, O: Write, 
             tell(rt, "rrs trace", file, &end);
             Ok(end.ending)
         }
-        Err(TraceError::Image(error)) => Err(no_image(request.path(), error)),
+        Err(TraceError::Image(error)) => Err(no_image(request.path(), file, error)),
         Err(TraceError::Output) => Err(Refusal::Output),
     }
 }
