@@ -4,6 +4,7 @@ ghost use Rattle.std.specs.Prelude.{◌≡◌};
 ghost use Rattle.std.specs.Process.{exit_status};
 ghost use Rattle.rrs_commands.specs.Endings.{refused_status, signal_of, status_of};
 
+use crate::call_names::call_name;
 use crate::faults::ToldFault;
 use crate::mistakes::tell_mistake;
 use crate::subcommands::Subcommand;
@@ -127,6 +128,14 @@ fn tell_refusal<H: Eprint>(
 pub fn tell_unserved<H: Eprint>(rt: &H, subcommand: &Subcommand, numbers: &[u32]) {
     let program = subcommand.command;
     for number in numbers {
-        let _ = eprintln!(rt; "{}: the system call {number} is not served", program.name);
+        let _ = match call_name(*number) {
+            Some(call) => {
+                eprintln!(rt;
+                    "{}: the system call {call} ({number}) is not served",
+                    program.name
+                )
+            }
+            None => eprintln!(rt; "{}: the system call {number} is not served", program.name),
+        };
     }
 }

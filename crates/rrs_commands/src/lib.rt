@@ -9,6 +9,7 @@
 
 pub mod assembly;
 mod assembly_files;
+mod call_names;
 pub mod ending;
 mod faults;
 mod mistakes;
