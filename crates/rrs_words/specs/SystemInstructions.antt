@@ -35,6 +35,12 @@ system_table Mret = system_entry (codes "mret") 0x73 0 (Fixed (pos 0x302))
 system_table Wfi = system_entry (codes "wfi") 0x73 0 (Fixed (pos 0x105))
 system_table FenceI = system_entry (codes "fence.i") 0x0f 1 Free
 
+-- the bits in the place of a CSR's number where there is one word alone
+abbrev pub alone_number : SystemRow → ℕ
+alone_number Mret = 0x302
+alone_number Wfi = 0x105
+alone_number _ = 0
+
 -- the word w is this row with these fields
 pub record IsSystem (w : ℕ) (row : SystemRow) (f : IType) : Type 0 where
   pub in_range : IsInRange (I f)

@@ -1,9 +1,9 @@
 //! The instructions that the 48 rows leave out: those on CSRs, `mret`, `wfi` and `fence.i`.
 
-ghost use Rattle.std.specs.Prelude.{◌≡◌, ◌+◌, ◌-◌, ◌/◌, ◌%◌, ◌^◌, ◌<◌, IfSome, IfNone};
+ghost use Rattle.std.specs.Prelude.{◌≡◌, ◌+◌, ◌-◌, ◌/◌, ◌%◌, ◌^◌, ◌<◌, ◌≤ℤ◌, pos, neg_ℤ, IfSome, IfNone};
 ghost use Rattle.rrs_instruction.specs.declared.instruction_formats.IType.{IType as IFields};
 ghost use Rattle.rrs_instruction.specs.Encodings.{I, IsInRange};
-ghost use Rattle.rrs_words.specs.SystemInstructions.{IsSystem, csr_number, always_writes, writes_csr, has_immediate, updated, HasPlaces};
+ghost use Rattle.rrs_words.specs.SystemInstructions.{IsSystem, alone_number, csr_number, system_table, always_writes, writes_csr, has_immediate, updated, HasPlaces};
 
 use rrs_instruction::arithmetic;
 use rrs_lib::instruction_formats::IType;
@@ -51,6 +51,21 @@ impl SystemRow {
         matches!(self, SystemRow::Csrrw | SystemRow::Csrrwi)
     }
 
+    /// What funct3 of its words is.
+    fn funct3(self) -> u32
+        ensures { result ≡ (system_table self).funct3 }
+    {
+        match self {
+            SystemRow::Mret | SystemRow::Wfi => 0,
+            SystemRow::Csrrw | SystemRow::FenceI => 1,
+            SystemRow::Csrrs => 2,
+            SystemRow::Csrrc => 3,
+            SystemRow::Csrrwi => 5,
+            SystemRow::Csrrsi => 6,
+            SystemRow::Csrrci => 7,
+        }
+    }
+
     /// Whether the operand is the number in the place of `rs1`, and not that register's value.
     pub fn has_immediate(self) -> bool
         ensures { result ≡ has_immediate self }
@@ -75,6 +90,40 @@ impl SystemRow {
 }
 
 impl SystemInstruction {
+    /// The instruction on a CSR, by the low 12 bits of its number.
+    pub fn on_csr(row: SystemRow, rd: usize, number: u32, rs1: usize) -> SystemInstruction
+        ensures row { result.row ≡ row }
+        ensures csr { csr_number result.fields ≡ number % 2 ^ 12 }
+        ensures funct3 { result.fields.funct3 ≡ (system_table row).funct3 }
+        ensures registers { (result.fields.rd ≡ rd) × (result.fields.rs1 ≡ rs1) }
+        ensures range { (neg_ℤ (pos 2048) ≤ℤ result.fields.imm)
+            × (result.fields.imm ≤ℤ pos 2047) }
+    {
+        let number = (number % 4096) as i32;
+        let fields = IType {
+            imm: if number < 2048 { number } else { number - 4096 },
+            rs1,
+            funct3: row.funct3(),
+            rd,
+        };
+        SystemInstruction { row, fields }
+    }
+
+    /// `mret`, `wfi` or `fence.i`; of another row the instruction on CSR 0 with x0.
+    pub fn alone(row: SystemRow) -> SystemInstruction
+        ensures row { result.row ≡ row }
+        ensures csr { csr_number result.fields ≡ alone_number row }
+        ensures funct3 { result.fields.funct3 ≡ (system_table row).funct3 }
+        ensures registers { (result.fields.rd ≡ 0) × (result.fields.rs1 ≡ 0) }
+    {
+        let number = match row {
+            SystemRow::Mret => 0x302,
+            SystemRow::Wfi => 0x105,
+            _ => 0,
+        };
+        SystemInstruction::on_csr(row, 0, number, 0)
+    }
+
     /// Whether the instruction writes its CSR: `csrrw` and `csrrwi` do in any case, the others
     /// where `rs1` is not 0.
     pub fn writes_csr(&self) -> bool

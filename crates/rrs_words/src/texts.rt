@@ -6,12 +6,14 @@
 //! | `csrrwi`, `csrrsi`, `csrrci` | `csrrsi x1, mie, 8`: rd, the CSR and the immediate |
 //! | `mret`, `wfi`, `fence.i` | `mret`: the mnemonic alone |
 
-ghost use Rattle.std.specs.Prelude.{◌≡◌, ◌+◌, ◌≤◌, ◌<◌, ◌^◌, ◌++◌, length, codes, IsTrue};
+ghost use Rattle.std.specs.Prelude.{◌≡◌, ◌≢◌, ◌+◌, ◌≤◌, ◌<◌, ◌^◌, ◌++◌, ℕ, IfNone, IfSome, length, codes, is_some, true, IsTrue};
+ghost use Rattle.std.specs.Bool.{OnFalse, OnTrue};
 ghost use Rattle.rrs_words.specs.SystemInstructions.{system_table, csr_number};
-ghost use Rattle.rrs_words.specs.CsrNumbers.{is_from_to};
+ghost use Rattle.rrs_words.specs.CsrNumbers.{csr_at, is_from_to};
 ghost use Rattle.rrs_words.specs.SystemTexts.{csr_name, monitor_name, operand_text, csr_text, system_text};
 ghost use Rattle.rrs_lib.specs.Texts.{register};
 
+use crate::csrs::Csr;
 use crate::instructions::{SystemInstruction, SystemRow};
 use crate::names::table_name;
 use arrayvec::ArrayString;
@@ -95,6 +97,42 @@ fn push_csr(text: &mut SystemText, number: u32)
     } else {
         text.push_str(name);
     }
+}
+
+/// Whether there is a CSR with this number, and it has this name.
+fn is_named(number: u32, name: &[u8]) -> bool
+    ensures yes { OnTrue result ((csr_name number ≡ name.now)
+        × (is_some (csr_at number) ≡ true)) }
+    ensures no { OnFalse result (is_some (csr_at number) ≡ true → csr_name number ≢ name.now) }
+{
+    if Csr::at(number).is_none() {
+        return false;
+    }
+    let mut text = SystemText::new();
+    push_csr(&mut text, number);
+    text.as_bytes() == name
+}
+
+/// The number of the CSR of this hart that has a name, or `None` where none has it.
+///
+/// # Examples
+///
+/// ```
+/// assert_eq!(rt; csr_named(b"mstatus"), Some(0x300));
+/// assert_eq!(rt; csr_named(b"satp"), None);
+/// ```
+pub fn csr_named(name: &[u8]) -> Option<u32>
+    ensures named { IfSome result (λ number. (csr_name number ≡ name.now)
+        × (is_some (csr_at number) ≡ true)) }
+    ensures none { IfNone result ((number : ℕ) → number < 4096
+        → is_some (csr_at number) ≡ true → csr_name number ≢ name.now) }
+{
+    for number in 0..4096 {
+        if is_named(number, name) {
+            return Some(number);
+        }
+    }
+    None
 }
 
 /// Appends the operand of an instruction on a CSR.
