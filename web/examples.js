@@ -288,19 +288,7 @@ end:
     name: "Interrupts of a timer",
     about: "A loop counts, and a timer interrupts it: the handler prints how often it came.",
     calls: "machine",
-    text: `# Counts in a loop, which a timer interrupts each 50 instructions. The assembler has no
-# instructions of machine mode: macros make their words.
-    .macro csrw csr, register
-    .word 0x1073 + (\\csr << 20) + (\\register << 15)
-    .endm
-    .macro mret
-    .word 0x30200073
-    .endm
-mstatus = 0x300
-mie = 0x304
-mtvec = 0x305
-t0 = 5                      # the number of t0
-
+    text: `# Counts in a loop, which a timer interrupts each 50 instructions.
 main:
     la   t0, handler
     csrw mtvec, t0          # where an interrupt goes to

@@ -27,6 +27,14 @@ BRANCHES = "beq bne blt bltu bge bgeu".split()
 SWAPPED = "bgt ble bgtu bleu".split()
 AGAINST_ZERO = "beqz bnez blez bgez bltz bgtz".split()
 OF_ONE = "mv not neg seqz snez sltz sgtz".split()
+CSR_ROWS = "csrrw csrrs csrrc".split()
+CSR_WRITES = "csrw csrs csrc".split()
+COUNTERS = "rdcycle rdtime rdinstret rdcycleh rdtimeh rdinstreth".split()
+CSRS = ("mstatus misa mie mtvec mstatush mcountinhibit mscratch mepc mcause mtval mip mcycle "
+        "minstret mcycleh minstreth cycle time instret cycleh timeh instreth mvendorid marchid "
+        "mimpid mhartid mconfigptr").split()
+CSRS += [f"mhpm{kind}" for n in range(3, 32)
+         for kind in (f"event{n}", f"counter{n}", f"counter{n}h")]
 INFIX = "!! ! ^ | & + - * == != <> < > <= >= && ||".split()
 # directives, and what each takes; `*` stands where the text goes
 DIRECTIVES = [
@@ -49,9 +57,10 @@ OF_ZERO = re.compile(rb"\bli\s+(x0|zero)\b")
 STATEMENT = re.compile(rb"\s*(?:\w+\s*:\s*|nop\s*;\s*)*([.a-z]+)\s+(.*)")
 SYMBOL = re.compile(rb"(?<![\w.$%])(?:\.(?![\w.$])|[A-Za-z_][\w.$]*)")
 NEGATED = re.compile(rb"-\s*[.A-Za-z_]")
-NUMBERS = {name.encode() for name in [f"x{n}" for n in range(32)] + ABI + ["fp", "constant"]}
+NUMBERS = {name.encode() for name in [f"x{n}" for n in range(32)] + ABI + ["fp", "constant"] + CSRS}
 TAKES_NUMBER = {name.encode() for name in IMMEDIATE + SHIFTS + LOADS + STORES
-                + ["lui", "auipc", "jalr", "li"]}
+                + ["lui", "auipc", "jalr", "li", "csrr"] + CSR_ROWS + CSR_WRITES
+                + [name + "i" for name in CSR_ROWS + CSR_WRITES]}
 TWO_PLACES = re.compile(rb"(?<![\w.$])\.(?![\w.$]).*(?<![\w.$])\.(?![\w.$])")
 OPERATOR = re.compile(rb"[*/<>|&^!~=]|%(?!lo|hi|pcrel)")
 MINUS_PLACE = re.compile(rb"[-~!]\s*\.(?![\w.$])")
@@ -124,7 +133,7 @@ class Source:
 
     def statement(self):
         r, join = self.register, self.join
-        kind = self.random.randrange(20 if self.is_apart else 22)
+        kind = self.random.randrange(21 if self.is_apart else 23)
         pick = self.random.choice
         if kind < 4:
             return f"{pick(THREE)} {join(r(), r(), r())}"
@@ -167,6 +176,8 @@ class Source:
             place = pick(["first", "last", "first + 8", "last - 4"])
             return pick([f"la {join(r(), place)}", f"call {place}", f"tail {place}"])
         if kind == 20:
+            return self.system()
+        if kind == 21:
             return pick([
                 f".word {join(self.word(), 'last - first', '-1', 'constant')}",
                 f".half {join(self.number(-32768, 65535), self.number(0, 65535))}",
@@ -182,6 +193,16 @@ class Source:
                      f".set constant, {self.number(0, 5000)} + 3",
                      f".word {join(self.operated(), self.operated())}",
                      f".word near{self.labels}, last"])
+
+    def system(self):
+        """An instruction on a CSR, or one that is alone."""
+        r, join, pick = self.register, self.join, self.random.choice
+        csr, number = pick([pick(CSRS), self.number(0, 4095)]), self.number(0, 31)
+        return pick([f"{pick(CSR_ROWS)} {join(r(), csr, pick([r(), number]))}",
+                     f"{pick(CSR_ROWS)}i {join(r(), csr, number)}",
+                     f"{pick(CSR_WRITES)} {join(csr, pick([r(), number]))}",
+                     f"{pick(CSR_WRITES)}i {join(csr, number)}", f"csrr {join(r(), csr)}",
+                     f"{pick(COUNTERS)} {r()}", pick(["mret", "wfi", "fence.i"])])
 
     def make(self, count):
         self.lines = [".equ constant, 12", "first:", "near0: nop", "1:", "2:", "near1:"]

@@ -548,7 +548,7 @@ def machine_mode(machine):
         page.ask("$('calls').selectedOptions[0].textContent"), set(page.ask(CSRS).values())])
     machine.keys("sss")
     machine.says("Step 3", "csrrw zero, mtvec, t0: mtvec = 0x0000002c")
-    same("a line, with its macro", "csrrw zero, mtvec, t0", page.ask(
+    same("a line", "csrrw zero, mtvec, t0", page.ask(
         "document.querySelector('#line-2 .instruction').textContent"))
     page.ask("rrs.session.toggleBreakpoint(rrs.session.addressOf('handler') / 4)")
     machine.run()

@@ -3,12 +3,17 @@ use Rattle.std.proofs.Common.{◌≡◌, ℕ, Bool, true, false, not, ◌&&◌, 
 use Rattle.std.proofs.lemmas.Slice.Eq.{bytes_eq-Decides}
 use Rattle.rrs_asm.specs.declared.names.PseudoForm.{PseudoForm}
 use Rattle.rrs_asm.specs.declared.names.DirectiveForm.{DirectiveForm}
-use Rattle.rrs_asm.specs.Names.{is_one_of, fill_names, is_silent_name, is_section_name, is_common_name}
-use Rattle.rrs_asm.specs.Forms.{form_name, fits_pseudo, fits_placed, fits_directive, IsForm}
+use Rattle.rrs_asm.specs.declared.system.SystemForm.{SystemForm}
+use Rattle.rrs_asm.specs.Names.{system_form_name, is_one_of, fill_names, is_silent_name, is_section_name, is_common_name}
+use Rattle.rrs_asm.specs.Forms.{form_name, fits_pseudo, fits_system, fits_placed, fits_directive, IsForm}
 
 pub pseudo-name : (name : List ℕ) (found : Option PseudoForm) → IfSome found (λ form. fits_pseudo name form ≡ true) → IfSome found (λ form. form_name form ≡ name)
 pseudo-name name None fits = tt
 pseudo-name name (Some form) fits = (bytes_eq-Decides (form_name form) name).0 fits
+
+pub system-name : (name : List ℕ) (found : Option SystemForm) → IfSome found (λ form. fits_system name form ≡ true) → IfSome found (λ form. system_form_name form ≡ name)
+system-name name None fits = tt
+system-name name (Some form) fits = (bytes_eq-Decides (system_form_name form) name).0 fits
 
 both : (a b : Bool) → (not a && b) ≡ true → (a ≡ false) × (b ≡ true)
 both false true is = (refl, refl)

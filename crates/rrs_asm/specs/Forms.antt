@@ -4,6 +4,7 @@ use Rattle.std.specs.Prelude.{◌≡◌, ℕ, ◌+◌, Bool, true, false, not, �
 use Rattle.std.specs.Borrow.{Bor}
 use Rattle.std.specs.Str.{bytes_eq}
 use Rattle.rrs_asm.specs.declared.names.PseudoForm.{PseudoForm}
+use Rattle.rrs_asm.specs.declared.system.SystemForm.{SystemForm}
 use Rattle.rrs_asm.specs.declared.names.PlacedForm.{PlacedForm}
 use Rattle.rrs_asm.specs.declared.names.DirectiveForm.{DirectiveForm}
 use Rattle.rrs_asm.specs.declared.directives.Read.{Read}
@@ -13,7 +14,7 @@ use Rattle.rrs_asm.specs.declared.sections.Layout.{Layout}
 use Rattle.rrs_asm.specs.declared.assembling.Reading.{Reading}
 use Rattle.rrs_asm_lines.specs.Lines.{lines, parts}
 use Rattle.rrs_asm.specs.Source.{Item, items_of_parts, items_from}
-use Rattle.rrs_asm.specs.Names.{branch_name, load_name, store_name}
+use Rattle.rrs_asm.specs.Names.{branch_name, load_name, store_name, system_form_name}
 use Rattle.rrs_asm.specs.Names.{unary_name, zero_branch_name, swapped_name, comparison_name, is_one_of, data_names, fill_names, is_silent_name, is_section_name, is_common_name, IsNamed}
 use Rattle.rrs_asm.specs.Statements.{IsMade}
 use Rattle.rrs_asm.specs.Sections.{names_of, open_behind, in_section, first_open, AllFound, AreLaidOut, AreSectionsOf}
@@ -38,6 +39,9 @@ form_name PseudoForm.Tail = codes "tail"
 
 abbrev pub fits_pseudo : List ℕ → PseudoForm → Bool
 fits_pseudo name form = bytes_eq (form_name form) name
+
+abbrev pub fits_system : List ℕ → SystemForm → Bool
+fits_system name form = bytes_eq (system_form_name form) name
 
 abbrev pub fits_placed : List ℕ → PlacedForm → Bool
 fits_placed name PlacedForm.Space = is_one_of fill_names name

@@ -1,11 +1,17 @@
 -- The names of statements: of instructions, which are those of the table, of pseudo-instructions
 -- (RISC-V unprivileged specification, "RISC-V Assembly Programmer's Handbook"), and of directives
 -- (GNU assembler manual, "Assembler Directives").
-use Rattle.std.specs.Prelude.{◌≡◌, ℕ, Bool, true, false, ◌&&◌, ◌||◌, ◌==◌, List, [], ◌∷◌, codes}
-use Rattle.std.specs.List.{list_any, starts_with}
+use Rattle.std.specs.Prelude.{◌≡◌, ℕ, Bool, true, false, ◌&&◌, ◌||◌, ◌==◌, List, [], ◌∷◌, ◌++◌, if◌then◌else◌, map, codes}
+use Rattle.std.specs.List.{filter, list_any, starts_with}
 use Rattle.std.specs.Str.{bytes_eq}
 use Rattle.rrs_instruction.specs.Table.{table}
 use Rattle.rrs_instruction.specs.Instructions.{row_of}
+use Rattle.rrs_instruction.specs.declared.instruction_formats.IType.{IType}
+use Rattle.rrs_words.specs.declared.instructions.SystemRow.{SystemRow}
+use Rattle.rrs_words.specs.declared.instructions.SystemRow.TheVariants as Row
+use Rattle.rrs_words.specs.SystemInstructions.{system_table, csr_number}
+use Rattle.rrs_asm.specs.declared.system.Counter.{Counter}
+use Rattle.rrs_asm.specs.declared.system.SystemForm.{SystemForm}
 use Rattle.rrs_asm.specs.declared.pseudo.Unary.{Unary}
 use Rattle.rrs_asm.specs.declared.pseudo.Branch.{Branch}
 use Rattle.rrs_asm.specs.declared.pseudo.ZeroBranch.{ZeroBranch}
@@ -90,6 +96,75 @@ pseudo_name (Pseudo.Jalr rs) = codes "jalr"
 pseudo_name (Pseudo.Call offset) = codes "call"
 pseudo_name (Pseudo.Tail offset) = codes "tail"
 
+-- ---- instructions on CSRs, and those that are alone
+
+abbrev pub counter_name : Counter → List ℕ
+counter_name Counter.Cycle = codes "rdcycle"
+counter_name Counter.Time = codes "rdtime"
+counter_name Counter.Instret = codes "rdinstret"
+counter_name Counter.Cycleh = codes "rdcycleh"
+counter_name Counter.Timeh = codes "rdtimeh"
+counter_name Counter.Instreth = codes "rdinstreth"
+
+abbrev pub counter_number : Counter → ℕ
+counter_number Counter.Cycle = 0xc00
+counter_number Counter.Time = 0xc01
+counter_number Counter.Instret = 0xc02
+counter_number Counter.Cycleh = 0xc80
+counter_number Counter.Timeh = 0xc81
+counter_number Counter.Instreth = 0xc82
+
+-- the row with an immediate in the place of a register
+abbrev pub immediate_form : SystemRow → SystemRow
+immediate_form Row.Csrrw = Row.Csrrwi
+immediate_form Row.Csrrs = Row.Csrrsi
+immediate_form Row.Csrrc = Row.Csrrci
+immediate_form row = row
+
+-- the name where rd is x0 and is not written
+abbrev pub short_name : SystemRow → List ℕ
+short_name Row.Csrrw = codes "csrw"
+short_name Row.Csrrs = codes "csrs"
+short_name Row.Csrrc = codes "csrc"
+short_name Row.Csrrwi = codes "csrwi"
+short_name Row.Csrrsi = codes "csrsi"
+short_name Row.Csrrci = codes "csrci"
+short_name row = (system_table row).name
+
+-- The rows by whose names a row goes: its own, and with a number as the operand that of the row
+-- with a register.
+abbrev pub named_as : SystemRow → List SystemRow
+named_as Row.Csrrwi = Row.Csrrwi ∷ Row.Csrrw ∷ []
+named_as Row.Csrrsi = Row.Csrrsi ∷ Row.Csrrs ∷ []
+named_as Row.Csrrci = Row.Csrrci ∷ Row.Csrrc ∷ []
+named_as row = row ∷ []
+
+abbrev pub counters : List Counter
+counters =
+    Counter.Cycle ∷ Counter.Time ∷ Counter.Instret ∷ Counter.Cycleh ∷ Counter.Timeh
+    ∷ Counter.Instreth ∷ []
+
+-- the names of a read, where rs1 is x0: `csrr`, and that of the counter with this number
+abbrev pub read_names : SystemRow → ℕ → List (List ℕ)
+read_names Row.Csrrs number =
+    codes "csrr" ∷ map counter_name (filter (λ c. counter_number c == number) counters)
+read_names row number = []
+
+-- the names by which an instruction may be written
+abbrev pub system_names : SystemRow → IType → List (List ℕ)
+system_names row f =
+    map (λ own. (system_table own).name) (named_as row)
+    ++ (if f.rd == 0 then map short_name (named_as row) else [])
+    ++ (if f.rs1 == 0 then read_names row (csr_number f) else [])
+
+-- the name of a form
+abbrev pub system_form_name : SystemForm → List ℕ
+system_form_name (SystemForm.Alone row) = (system_table row).name
+system_form_name (SystemForm.Whole row) = (system_table row).name
+system_form_name (SystemForm.Short row) = short_name row
+system_form_name SystemForm.Read = codes "csrr"
+system_form_name (SystemForm.Counter counter) = counter_name counter
+
 -- ---- directives
 
 abbrev pub is_one_of : List (List ℕ) → List ℕ → Bool
@@ -148,6 +223,7 @@ is_common_name name = begins_with_dot name && is_one_of common_names name
 -- a statement is one of this name
 abbrev pub IsNamed : List ℕ → Statement → Type 0
 IsNamed name (Statement.Instruction i) = (table (row_of i)).name ≡ name
+IsNamed name (Statement.System i) = is_one_of (system_names i.row i.fields) name ≡ true
 IsNamed name (Statement.Pseudo pseudo) = pseudo_name pseudo ≡ name
 IsNamed name (Statement.Data count) = is_one_of data_names name ≡ true
 IsNamed name (Statement.Fill count byte) = is_one_of fill_names name ≡ true

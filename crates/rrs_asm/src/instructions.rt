@@ -9,6 +9,7 @@ ghost use Rattle.rrs_asm.specs.Forms.{form_name, IsRowForm};
 use crate::names::{PseudoForm, pseudo_named};
 use crate::pseudo::{Branch, Load, Pseudo, Store};
 use crate::statements::Statement;
+use crate::system::{read_system, system_named};
 use rrs_asm_lines::{Line, LineError, SourceErrorKind, place_among};
 use rrs_encode::{Operands, instruction_named, with_operands};
 use rrs_instruction::instruction::{Instruction, InstructionFields};
@@ -41,6 +42,9 @@ pub fn read_instruction(
     }
     if let Some(template) = instruction_named(name) {
         return Ok(read_row(line, template));
+    }
+    if let Some(form) = system_named(name) {
+        return Ok(read_system(line, form));
     }
     match pseudo_named(name) {
         Some(form) => Ok(Statement::Pseudo(read_pseudo(line, form))),

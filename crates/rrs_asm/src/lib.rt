@@ -1,6 +1,7 @@
 //! An assembler for what people write: a file of assembly in, its bytes out.
 //!
-//! [assemble_source] reads a source of RV32I with multiply and divide, with the names of the ABI,
+//! [assemble_source] reads a source of RV32I with multiply and divide and with the instructions on
+//! CSRs, with the names of the ABI,
 //! numbers, labels, pseudo-instructions and directives. `docs/ASSEMBLY.md` has the syntax.
 //!
 //! A source is read three times: for how long its sections are, for what its symbols stand for, and
@@ -24,6 +25,7 @@ mod program;
 mod pseudo;
 mod sections;
 mod statements;
+mod system;
 
 pub use assembling::assemble_source;
 pub use errors::{SourceError, SourceFault};

@@ -39,12 +39,24 @@ pub enum Form {
     FarJump,
     /// Two sets of accesses.
     Fence,
+    /// A register, a CSR, and a register or a number of 5 bits.
+    Csr,
+    /// A register, a CSR and a number of 5 bits.
+    CsrImmediate,
+    /// A CSR, and a register or a number of 5 bits.
+    CsrWrite,
+    /// A CSR and a number of 5 bits.
+    CsrWriteImmediate,
+    /// A register and a CSR.
+    CsrRead,
+    /// A register, into which a counter is read.
+    Counter,
     /// None.
     Alone,
 }
 
 /// The instructions and pseudo-instructions, by their forms.
-pub static NAMES: [(&[u8], Form); 19] = [
+pub static NAMES: [(&[u8], Form); 26] = [
     (
         b"add sub sll slt sltu xor srl sra or and mul mulh mulhsu mulhu div divu rem remu sgt \
             sgtu",
@@ -68,6 +80,16 @@ pub static NAMES: [(&[u8], Form); 19] = [
     (b"ecall ebreak", Form::Alone),
     (b"fence", Form::Fence),
     (b"nop ret unimp", Form::Alone),
+    (b"mret wfi fence.i", Form::Alone),
+    (b"csrrw csrrs csrrc", Form::Csr),
+    (b"csrrwi csrrsi csrrci", Form::CsrImmediate),
+    (b"csrw csrs csrc", Form::CsrWrite),
+    (b"csrwi csrsi csrci", Form::CsrWriteImmediate),
+    (b"csrr", Form::CsrRead),
+    (
+        b"rdcycle rdtime rdinstret rdcycleh rdtimeh rdinstreth",
+        Form::Counter,
+    ),
 ];
 
 /// An instruction that takes a number, and the one that takes a register in its place.
@@ -201,6 +223,12 @@ fn operands_of(form: Form) -> &'static str {
         Form::LinkRegister => " rd, offset(rs1)",
         Form::FarJump => " label, rt",
         Form::Fence => " rw, rw",
+        Form::Csr => " rd, csr, rs1",
+        Form::CsrImmediate => " rd, csr, number",
+        Form::CsrWrite => " csr, rs1",
+        Form::CsrWriteImmediate => " csr, number",
+        Form::CsrRead => " rd, csr",
+        Form::Counter => " rd",
         Form::Alone => "",
     }
 }
@@ -210,6 +238,10 @@ pub fn range_of(name: &[u8]) -> &'static str {
     match form_of(name) {
         Some(Form::Immediate) => " takes -2048 to 2047; li puts any number into a register",
         Some(Form::Shift) => " takes 0 to 31",
+        Some(Form::Csr | Form::CsrImmediate | Form::CsrWrite | Form::CsrWriteImmediate) => {
+            " takes a CSR below 4096, and a number of 0 to 31"
+        }
+        Some(Form::CsrRead) => " takes a CSR below 4096",
         Some(Form::Load | Form::Store | Form::LinkRegister) => " takes an offset of -2048 to 2047",
         Some(Form::Upper) => " takes 0 to 1048575, the upper 20 bits",
         Some(Form::Branch | Form::ZeroBranch) => " reaches 1048572 bytes back and 1048578 forward",

@@ -60,7 +60,23 @@ static ROWS: [(&str, &[u32]); 48] = [
 ];
 
 /// Pseudo-instructions, and how operands can be written.
-static PSEUDO_INSTRUCTIONS: [(&str, &[u32]); 54] = [
+static PSEUDO_INSTRUCTIONS: [(&str, &[u32]); 70] = [
+    ("csrrw a0, mstatus, a1", &[0x30059573]),
+    ("csrr a0, mepc", &[0x34102573]),
+    ("csrw mtvec, a0", &[0x30551073]),
+    ("csrw mtvec, 5", &[0x3052d073]),
+    ("csrrs t0, 0x340, 31", &[0x340fe2f3]),
+    ("csrs mie, a0", &[0x30452073]),
+    ("csrsi mstatus, 8", &[0x30046073]),
+    ("csrrci x1, mhpmcounter3h, 0", &[0xb83070f3]),
+    ("mret", &[0x30200073]),
+    ("wfi", &[0x10500073]),
+    ("fence.i", &[0x0000100f]),
+    ("rdcycle a0", &[0xc0002573]),
+    ("rdinstreth t1", &[0xc8202373]),
+    ("csrc mip, t6", &[0x344fb073]),
+    ("csrrc ra, 4095, sp", &[0xfff130f3]),
+    ("rdtime s0", &[0xc0102473]),
     ("nop", &[0x00000013]),
     ("ret", &[0x00008067]),
     ("fence", &[0x0ff0000f]),

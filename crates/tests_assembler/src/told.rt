@@ -121,13 +121,13 @@ static TOLD: [(&str, &str); 41] = [
          5:8: a value is wanted here: a parameter of this name has no macro here\n",
     ),
     (
-        "ADDI a0, a0, 1\nNop\nLI a0, 1\nmove a0, a1\nsubi a0, a0, 1\nmret\nli, a0\nprint",
+        "ADDI a0, a0, 1\nNop\nLI a0, 1\nmove a0, a1\nsubi a0, a0, 1\nsret\nli, a0\nprint",
         "1:1: no such instruction or directive: ADDI; is addi meant?\n\
          2:1: no such instruction or directive: Nop; is nop meant?\n\
          3:1: no such instruction or directive: LI; is li meant?\n\
          4:1: no such instruction or directive: move; is mv meant?\n\
          5:1: no such instruction or directive: subi; addi takes a number, here the negative one\n\
-         6:1: no such instruction or directive: mret; it is not of RV32IM\n\
+         6:1: no such instruction or directive: sret; it is not of RV32IM\n\
          7:1: no comma stands after li\n\
          8:1: no such instruction or directive: print; a label is written print:\n",
     ),

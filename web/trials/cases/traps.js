@@ -11,27 +11,11 @@ const { thereAndBack } = require("./machine.js");
 
 const RRS = path.join(__dirname, "..", "..", "..", "crates", "rrs", "out", "rrs");
 
-const MACROS = `.macro csrw csr, register
-.word 0x1073 + (\\csr << 20) + (\\register << 15)
-.endm
-.macro csrr register, csr
-.word 0x2073 + (\\csr << 20) + (\\register << 7)
-.endm
-.macro csrsi csr, bits
-.word 0x6073 + (\\csr << 20) + (\\bits << 15)
-.endm
-.macro mret
-.word 0x30200073
-.endm
-.macro wfi
-.word 0x10500073
-.endm
-`;
 /* A handler that leaves in a0 and a1 what mcause and mtval are, and in a2 mepc, and ends. */
-const WITH_HANDLER = `main: la t0, handler; csrw 0x305, 5; li t0, 0x88; csrw 0x304, 5
+const WITH_HANDLER = `main: la t0, handler; csrw 0x305, t0; li t0, 0x88; csrw 0x304, t0
 li s0, 0x2000000; li s1, 0x2004000; li s2, 0x200bff8; j body
 .align 2
-handler: csrr 10, 0x342; csrr 11, 0x343; csrr 12, 0x341; li t0, 0x100000; li t1, 0x5555
+handler: csrr a0, 0x342; csrr a1, 0x343; csrr a2, 0x341; li t0, 0x100000; li t1, 0x5555
 sw t1, (t0)
 body: `;
 const FINISH = "\nli t0, 0x100000; li t1, 0x5555; sw t1, (t0)";
@@ -40,7 +24,7 @@ const FINISH = "\nli t0, 0x100000; li t1, 0x5555; sw t1, (t0)";
 function machineOf(page, kit, text, base = 0) {
   const machine = new page.Machine(kit);
   machine.environment = page.ENVIRONMENTS.machine;
-  const { words, entry, code } = page.parseAssembly(MACROS + text, base, 65536, kit);
+  const { words, entry, code } = page.parseAssembly(text, base, 65536, kit);
   machine.load(words, base, 65536, true, entry, 0, code);
   return machine;
 }
@@ -59,25 +43,25 @@ const FINDINGS = [
   ["a byte of a device", `${WITH_HANDLER}lb a0, (s2)`, ["exit", 5, 0x200bff8, 0x44]],
   ["a software interrupt", `${WITH_HANDLER}csrsi 0x300, 8; li t0, 1; sw t0, (s0); nop; nop`,
     ["exit", 0x80000003, 0, 0x50]],
-  ["one that is pending, and not enabled", `${WITH_HANDLER}csrsi 0x300, 8; csrw 0x304, 0
-li t0, 1; sw t0, (s0); lw a0, (s0); csrr 11, 0x344; li a2, 5${FINISH}`, ["exit", 1, 8, 5]],
+  ["one that is pending, and not enabled", `${WITH_HANDLER}csrsi 0x300, 8; csrw 0x304, zero
+li t0, 1; sw t0, (s0); lw a0, (s0); csrr a1, 0x344; li a2, 5${FINISH}`, ["exit", 1, 8, 5]],
   ["a timer", `${WITH_HANDLER}csrsi 0x300, 8; sw zero, 4(s1); lw t1, (s2); addi t1, t1, 5
 sw t1, (s1); nop; nop; nop; nop`, ["exit", 0x80000007, 0, 0x60]],
   ["a wait for it", `${WITH_HANDLER}csrsi 0x300, 8; li t1, 1000; sw t1, (s1); sw zero, 4(s1); wfi`,
     ["exit", 0x80000007, 0, 0x58]],
   ["a wait for nothing", `${WITH_HANDLER}wfi`, ["asleep", 0, 0, 0]],
   ["no handler for a call", "li a0, 5; ecall", ["fault", 5, 0, 0]],
-  ["no handler for an interrupt", `csrsi 0x300, 8; li t0, 8; csrw 0x304, 5; li s0, 0x2000000
+  ["no handler for an interrupt", `csrsi 0x300, 8; li t0, 8; csrw 0x304, t0; li s0, 0x2000000
 li t0, 1; sw t0, (s0); nop`, ["no handler", 0, 0, 0]],
   ["a status", "li t0, 0x100000; li t1, 0x73333; sw t1, (t0)", ["exit", 0, 0, 0]],
-  ["counters", `${WITH_HANDLER}csrr 10, 0xb00; csrr 11, 0xb02; csrr 12, 0xc01${FINISH}`,
+  ["counters", `${WITH_HANDLER}csrr a0, 0xb00; csrr a1, 0xb02; csrr a2, 0xc01${FINISH}`,
     ["exit", 10, 11, 12]],
-  ["counters that stand still", `li t0, 5; csrw 0x320, 5; nop; nop; csrr 10, 0xb00
-csrr 11, 0xb02; csrr 12, 0xc01${FINISH}`, ["exit", 2, 2, 6]],
+  ["counters that stand still", `li t0, 5; csrw 0x320, t0; nop; nop; csrr a0, 0xb00
+csrr a1, 0xb02; csrr a2, 0xc01${FINISH}`, ["exit", 2, 2, 6]],
   // mcycle and minstret are 2^32 - 1 before the last one
-  ["counters past 32 bits", `li t0, -3; csrw 0xb00, 5; csrw 0xb02, 5; nop; nop; nop; csrr 10, 0xb80
-csrr 11, 0xb82; csrr 12, 0xb00${FINISH}`, ["exit", 1, 1, 3]],
-  ["a time that is set", `${WITH_HANDLER}li t0, 7; sw t0, 4(s2); csrr 10, 0xc81; lw a1, 4(s2)
+  ["counters past 32 bits", `li t0, -3; csrw 0xb00, t0; csrw 0xb02, t0; nop; nop; nop; csrr a0, 0xb80
+csrr a1, 0xb82; csrr a2, 0xb00${FINISH}`, ["exit", 1, 1, 3]],
+  ["a time that is set", `${WITH_HANDLER}li t0, 7; sw t0, 4(s2); csrr a0, 0xc81; lw a1, 4(s2)
 sw zero, 4(s2); lw a2, 4(s2)${FINISH}`, ["exit", 7, 7, 0]],
   ["an alarm at reset", `${WITH_HANDLER}lw a0, (s1); lw a1, 4(s1); sw zero, 4(s1); lw a2, 4(s1)${
     FINISH}`, ["exit", 0xffffffff, 0xffffffff, 0]],
