@@ -158,9 +158,12 @@ fn push_header(
 
 /// Adds the bytes of a section, its section header, and, where it has bytes, its program header.
 fn add_section(parts: &mut Parts, section: &Section) -> Result<(), AllocError> {
-    let here = parts.here();
-    let offset = here.wrapping_add(section.address.wrapping_sub(here) % PAGE);
-    let size = size_of(&section.made.bytes);
+    let (here, size) = (parts.here(), size_of(&section.made.bytes));
+    let offset = if size == 0 {
+        here
+    } else {
+        here.wrapping_add(section.address.wrapping_sub(here) % PAGE)
+    };
     let is_stored = !matches!(section.kind, SectionKind::Zero) && size > 0;
     if is_stored {
         parts
