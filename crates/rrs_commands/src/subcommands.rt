@@ -58,7 +58,7 @@ const EXECUTE: Subcommand = Subcommand {
     task: Task::Execute,
     command: Command {
         name: "rrs exec",
-        usage: "rrs exec [--limit STEPS] [--memory BYTES] [--raw] PROGRAM [ARGUMENT] ..",
+        usage: "rrs exec [--limit STEPS] [--memory BYTES] [--clock fixed] [--raw] PROGRAM [ARGUMENT] ..",
     },
     summary: "runs a program that makes system calls of Linux",
     help: "Runs PROGRAM, an ELF executable for RV32IM, as a process of Linux with these
@@ -67,9 +67,9 @@ ARGUMENTs: in a memory of 256 MiB, or of what it needs up to 1 GiB (--memory, up
 code and constants are read-only. It makes at most STEPS steps, of which each system
 call is one, or any number. The program has standard input, output and error. A fault
 is told with its pc. Options stand before PROGRAM: the words after it are the
-program's own. With
---raw the file's bytes stand at address 0 of 1 MiB and sp at its end, and there are
-no ARGUMENTs.
+program's own. With --clock fixed its clocks stand at 0, so that each run is the
+same. With --raw the file's bytes stand at address 0 of 1 MiB and sp at its end, and
+there are no ARGUMENTs.
 
 Status: the program's own; 124 at the limit; 125 where it can't be run; 128 and
 the number of a signal for a fault: 132 illegal instruction, 133 breakpoint,
@@ -84,8 +84,8 @@ const TRACE: Subcommand = Subcommand {
     task: Task::Trace,
     command: Command {
         name: "rrs trace",
-        usage: "rrs trace [--limit STEPS] [--memory BYTES] [--from ADDRESS|SYMBOL] [--output FILE]
-    PROGRAM [ARGUMENT] ..",
+        usage: "rrs trace [--limit STEPS] [--memory BYTES] [--clock fixed] [--from ADDRESS|SYMBOL]
+    [--output FILE] PROGRAM [ARGUMENT] ..",
     },
     summary: "runs a program as rrs exec does, and writes Spike's commit log",
     help: "Runs PROGRAM as rrs exec does, and writes a line for each step, as Spike's
@@ -105,8 +105,8 @@ const COVER: Subcommand = Subcommand {
     task: Task::Cover,
     command: Command {
         name: "rrs cover",
-        usage: "rrs cover [--limit STEPS] [--memory BYTES] [--annotate] [--callgrind FILE]
-    [--output FILE] PROGRAM [ARGUMENT] ..",
+        usage: "rrs cover [--limit STEPS] [--memory BYTES] [--clock fixed] [--annotate]
+    [--callgrind FILE] [--output FILE] PROGRAM [ARGUMENT] ..",
     },
     summary: "runs a program as rrs exec does, and says what the run covered",
     help: "Runs PROGRAM as rrs exec does, and writes what the run covered: of each function how

@@ -5,7 +5,7 @@ use Rattle.rrs_run_commands.specs.declared.options.Task.TheVariants.{Run, Execut
 use Rattle.rrs_run_commands.specs.declared.options.Switch.{Switch}
 use Rattle.rrs_run_commands.specs.declared.options.Switch.TheVariants.{Quiet, Raw, Annotate, Gnu, Listed, Rars, Anywhere}
 use Rattle.rrs_run_commands.specs.declared.options.Setting.{Setting}
-use Rattle.rrs_run_commands.specs.declared.options.Setting.TheVariants.{Limit, Memory, From, Output, Callgrind, Input, Text, Data, Executable}
+use Rattle.rrs_run_commands.specs.declared.options.Setting.TheVariants.{Limit, Memory, From, Output, Callgrind, Input, Clock, Text, Data, Executable}
 
 -- ---- options without a value
 
@@ -38,6 +38,7 @@ setting_word From = codes "--from"
 setting_word Output = codes "--output"
 setting_word Callgrind = codes "--callgrind"
 setting_word Input = codes "--input"
+setting_word Clock = codes "--clock"
 setting_word Text = codes "-Ttext"
 setting_word Data = codes "-Tdata"
 setting_word Executable = codes "-o"
@@ -54,6 +55,9 @@ has_setting Cover Memory = true
 has_setting Board Memory = true
 has_setting Debug Memory = true
 has_setting DebugBoard Memory = true
+has_setting Execute Clock = true
+has_setting Trace Clock = true
+has_setting Cover Clock = true
 has_setting Trace From = true
 has_setting Trace Output = true
 has_setting Cover Output = true

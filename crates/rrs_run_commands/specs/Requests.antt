@@ -1,11 +1,11 @@
 -- What the words after a subcommand of `rrs` ask for. The words are lists of bytes.
 --
 --   rrs run [--quiet] FILE LIMIT
---   rrs exec [--limit STEPS] [--memory BYTES] [--raw] PROGRAM [ARGUMENT] ..
---   rrs trace [--limit STEPS] [--memory BYTES] [--from ADDRESS|SYMBOL] [--output FILE]
---       PROGRAM [ARGUMENT] ..
---   rrs cover [--limit STEPS] [--memory BYTES] [--annotate] [--callgrind FILE] [--output FILE]
---       PROGRAM [ARGUMENT] ..
+--   rrs exec [--limit STEPS] [--memory BYTES] [--clock fixed] [--raw] PROGRAM [ARGUMENT] ..
+--   rrs trace [--limit STEPS] [--memory BYTES] [--clock fixed] [--from ADDRESS|SYMBOL]
+--       [--output FILE] PROGRAM [ARGUMENT] ..
+--   rrs cover [--limit STEPS] [--memory BYTES] [--clock fixed] [--annotate] [--callgrind FILE]
+--       [--output FILE] PROGRAM [ARGUMENT] ..
 --   rrs as [--gnu | --list] [-o OUTPUT] [--rars] [-Ttext ADDRESS] [-Tdata ADDRESS]
 --       [--incbin-anywhere] FILE
 --   rrs dis FILE
@@ -25,7 +25,7 @@ use Rattle.rrs_run_commands.specs.declared.options.Task.TheVariants.{Run, Execut
 use Rattle.rrs_run_commands.specs.declared.options.Switch.{Switch}
 use Rattle.rrs_run_commands.specs.declared.options.Switch.TheVariants.{Quiet, Raw, Annotate, Gnu, Listed, Rars, Anywhere}
 use Rattle.rrs_run_commands.specs.declared.options.Setting.{Setting}
-use Rattle.rrs_run_commands.specs.declared.options.Setting.TheVariants.{Limit, Memory, From, Output, Callgrind, Input, Text, Data, Executable}
+use Rattle.rrs_run_commands.specs.declared.options.Setting.TheVariants.{Limit, Memory, From, Output, Callgrind, Input, Clock, Text, Data, Executable}
 use Rattle.rrs_run_commands.specs.declared.refusal.Mistake.{Mistake}
 use Rattle.rrs_run_commands.specs.declared.refusal.Mistake.TheVariants as Mistake
 use Rattle.rrs_run_commands.specs.declared.requests.Form.{Form}
@@ -41,6 +41,7 @@ pub record Wanted : Type 0 where
   pub annotated : Bool
   pub anywhere : Bool
   pub polled : Bool
+  pub clock_fixed : Bool
   pub form : Form
   pub limit : ℕ
   pub memory : Option ℕ
@@ -62,6 +63,7 @@ unasked task = record {
   annotated = false;
   anywhere = false;
   polled = false;
+  clock_fixed = false;
   form = Form.Bytes;
   limit = usual_limit task;
   memory = None;
@@ -83,6 +85,7 @@ wanted_of request = record {
   annotated = request.is_annotated;
   anywhere = request.has_any_file;
   polled = request.is_polled;
+  clock_fixed = request.has_fixed_clock;
   form = request.form;
   limit = request.limit;
   memory = request.memory;
@@ -146,6 +149,8 @@ Sets task Callgrind value old new = new ≡ record old { callgrind = Some value 
 Sets Board Input value old new =
     (value ≡ codes "polled") × (new ≡ record old { polled = true })
 Sets task Input value old new = new ≡ record old { input = Some value }
+Sets task Clock value old new =
+    (value ≡ codes "fixed") × (new ≡ record old { clock_fixed = true })
 Sets task Text value old new =
     (address : ℕ) × IsAddress value address × (new ≡ record old { text_start = Some address })
 Sets task Data value old new =
@@ -165,6 +170,7 @@ RefusesValue task Output value fault = ⊥
 RefusesValue task Callgrind value fault = ⊥
 RefusesValue Board Input value fault = (value ≡ codes "polled" → ⊥) × (fault ≡ Wrong Input value)
 RefusesValue task Input value fault = ⊥
+RefusesValue task Clock value fault = (value ≡ codes "fixed" → ⊥) × (fault ≡ Wrong Clock value)
 RefusesValue task Text value fault =
     ((address : ℕ) → IsAddress value address → ⊥) × (fault ≡ Wrong Text value)
 RefusesValue task Data value fault =

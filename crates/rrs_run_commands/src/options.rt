@@ -64,6 +64,8 @@ pub enum Setting {
     Callgrind,
     /// `--input`, with a path; on a board that is not debugged `polled`.
     Input,
+    /// `--clock`, with `fixed`.
+    Clock,
     /// `-Ttext`, with an address.
     Text,
     /// `-Tdata`, with an address.
@@ -73,7 +75,7 @@ pub enum Setting {
 }
 
 /// The words of all options.
-pub static WORDS: [&str; 16] = [
+pub static WORDS: [&str; 17] = [
     "--quiet",
     "--raw",
     "--annotate",
@@ -87,6 +89,7 @@ pub static WORDS: [&str; 16] = [
     "--output",
     "--callgrind",
     "--input",
+    "--clock",
     "-Ttext",
     "-Tdata",
     "-o",
@@ -121,6 +124,7 @@ fn setting_named(name: &str) -> Option<Setting>
         "--output" => Some(Setting::Output),
         "--callgrind" => Some(Setting::Callgrind),
         "--input" => Some(Setting::Input),
+        "--clock" => Some(Setting::Clock),
         "-Ttext" => Some(Setting::Text),
         "-Tdata" => Some(Setting::Data),
         "-o" => Some(Setting::Executable),
@@ -155,6 +159,7 @@ fn has_setting(task: Task, setting: Setting) -> bool
             task,
             Task::Execute | Task::Trace | Task::Cover | Task::Board | Task::Debug | Task::DebugBoard
         ),
+        Setting::Clock => matches!(task, Task::Execute | Task::Trace | Task::Cover),
         Setting::From => matches!(task, Task::Trace),
         Setting::Output => matches!(task, Task::Trace | Task::Cover),
         Setting::Callgrind => matches!(task, Task::Cover),

@@ -39,6 +39,8 @@ pub struct Request<'a> {
     pub has_any_file: bool,
     /// Whether the input of a board is polled: `--input polled`.
     pub is_polled: bool,
+    /// Whether the clocks of a program stand at 0: `--clock fixed`.
+    pub has_fixed_clock: bool,
     /// What is printed of a source.
     pub form: Form,
     /// The most steps that are made: `--limit`.
@@ -82,6 +84,7 @@ fn unasked<'a>(task: Task) -> Request<'a>
         is_annotated: false,
         has_any_file: false,
         is_polled: false,
+        has_fixed_clock: false,
         form: Form::Bytes,
         limit: usual_limit(task),
         memory: None,
@@ -289,6 +292,8 @@ fn set<'a>(
             Task::Board => return Err(Mistake::Wrong(setting, value)),
             _ => request.input = Some(value),
         },
+        Setting::Clock if value == "fixed" => request.has_fixed_clock = true,
+        Setting::Clock => return Err(Mistake::Wrong(setting, value)),
         Setting::Text => match address_of(value) {
             Some(address) => request.text_start = Some(address),
             None => return Err(Mistake::Wrong(setting, value)),
