@@ -1,14 +1,14 @@
 -- What is read of a packet, byte by byte, and what a link exchanges.
-use Rattle.std.proofs.Common.{◌≡◌, ◌≢◌, ℕ, zero, suc, ◌+◌, ◌<◌, ◌≤◌, ◌==◌, if◌then◌else◌, Bool, true, false, codes, is_some, List, [], ◌∷◌, ◌++◌, length, take, nat_lt, Option, None, Some, ◌⊎◌, refl, sym, subst, ap, ◌∙◌, inl, inr, append_assoc, arith}
+use Rattle.std.proofs.Common.{◌≡◌, ◌≢◌, ℕ, zero, suc, ◌+◌, ◌<◌, ◌≤◌, ◌==◌, if◌then◌else◌, Bool, true, false, codes, is_some, List, [], ◌∷◌, ◌++◌, length, take, nat_lt, Option, None, Some, ◌⊎◌, refl, sym, subst, ap, ◌∙◌, inl, inr, append_assoc, append-nil, lit<, arith}
 use Rattle.std.proofs.lemmas.List.{take_all, take-append-le, length-take, length-append}
 use Rattle.std.proofs.lemmas.Bool.Decides.{nat_tests}
-use Rattle.std.specs.Io.KnownBytes.{Appends, Consumes}
-use Rattle.std.proofs.KnownBytes.{Consumes-nil, Consumes-trans}
+use Rattle.std.specs.Io.KnownBytes.{Appends, Consumes, Keeps}
+use Rattle.std.proofs.KnownBytes.{Consumes-kept, Consumes-nil, Consumes-trans, Keeps-refl}
 use Rattle.rrs_gdb.specs.declared.link.Frame.{Frame}
 use Rattle.rrs_gdb.specs.declared.link.Link.{Link}
 use Rattle.rrs_gdb.specs.declared.link.Received.{Received}
-use Rattle.rrs_gdb.specs.Packets.{before, since_last, AskedAgain, ComesTo, IsFrame, IsMeaning, Receives, SentAgain, Skipped, Taken}
-use Rattle.rrs_gdb.specs.Shown.{Exchanges}
+use Rattle.rrs_gdb.specs.Packets.{before, behind, since_last, AskedAgain, ComesTo, IsFrame, IsMeaning, Receives, SentAgain, Skipped, Taken, Waits}
+use Rattle.rrs_gdb.specs.Shown.{Ends, Exchanges, Requests}
 use Rattle.rrs_gdb.proofs.OutputLemmas.{appends_both, appends_none}
 
 -- ---- what stands after the last of some bytes
@@ -244,13 +244,14 @@ comes_after acknowledges last None read written rest more first later = λ recei
     (first received (rest ++ others) (more ++ most) (later received others most after))
 comes_after acknowledges last (Some received) read written rest more first later = first received rest more later
 
-pub exchanges_both : {R W : Type 0} (remaining : R → Option (List ℕ)) (contents : W → Option (List ℕ))
-    (old mid new : Link R W) (reader : R) (acknowledges flag : Bool) (last kept : List ℕ) (found : Option Received) (b : ℕ)
-    → Exchanges remaining contents old mid (ComesTo acknowledges last None)
-    → Consumes (remaining mid.reader) (remaining reader) (b ∷ []) → flag ≡ acknowledges → kept ≡ last
-    → Exchanges remaining contents (record mid { reader = reader }) new (λ read written. ComesTo flag kept found (b ∷ read) written)
-    → Exchanges remaining contents old new (ComesTo acknowledges last found)
-exchanges_both remaining contents old mid new reader acknowledges flag last kept found b first one same_flag same_last later = record {
+exchanges_then : {R W : Type 0} (remaining : R → Option (List ℕ)) (contents : W → Option (List ℕ))
+    (First Later IsMeant : List ℕ → List ℕ → Type 0) (old mid new : Link R W) (reader : R) (b : ℕ)
+    → (first : Exchanges remaining contents old mid First)
+    → Consumes (remaining mid.reader) (remaining reader) (b ∷ [])
+    → (later : Exchanges remaining contents (record mid { reader = reader }) new Later)
+    → IsMeant (first.read ++ b ∷ later.read) (first.written ++ later.written)
+    → Exchanges remaining contents old new IsMeant
+exchanges_then remaining contents First Later IsMeant old mid new reader b first one later meant = record {
   read = first.read ++ b ∷ later.read;
   written = first.written ++ later.written;
   consumed = Consumes-trans (remaining old.reader) (remaining mid.reader) (remaining new.reader) first.read (b ∷ later.read)
@@ -258,7 +259,124 @@ exchanges_both remaining contents old mid new reader acknowledges flag last kept
       one later.consumed);
   appended = appends_both (contents old.writer) (contents mid.writer) (contents new.writer) first.written later.written
       first.appended later.appended;
-  meant = comes_after acknowledges last found first.read first.written (b ∷ later.read) later.written first.meant
-      (subst (λ (xs : List ℕ). ComesTo acknowledges xs found (b ∷ later.read) later.written) same_last
-      (subst (λ (is : Bool). ComesTo is kept found (b ∷ later.read) later.written) same_flag later.meant));
+  meant = meant;
 }
+
+pub exchanges_both : {R W : Type 0} (remaining : R → Option (List ℕ)) (contents : W → Option (List ℕ))
+    (old mid new : Link R W) (reader : R) (acknowledges flag : Bool) (last kept : List ℕ) (found : Option Received) (b : ℕ)
+    → Exchanges remaining contents old mid (ComesTo acknowledges last None)
+    → Consumes (remaining mid.reader) (remaining reader) (b ∷ []) → flag ≡ acknowledges → kept ≡ last
+    → Exchanges remaining contents (record mid { reader = reader }) new (λ read written. ComesTo flag kept found (b ∷ read) written)
+    → Exchanges remaining contents old new (ComesTo acknowledges last found)
+exchanges_both remaining contents old mid new reader acknowledges flag last kept found b first one same_flag same_last later =
+    exchanges_then remaining contents _ _ _ old mid new reader b first one later
+    (comes_after acknowledges last found first.read first.written (b ∷ later.read) later.written first.meant
+    (subst (λ (xs : List ℕ). ComesTo acknowledges xs found (b ∷ later.read) later.written) same_last
+    (subst (λ (is : Bool). ComesTo is kept found (b ∷ later.read) later.written) same_flag later.meant)))
+
+-- ---- where the input ends
+
+behind_none : (at : ℕ) (xs : List ℕ) → before at xs ≡ xs → behind at xs ≡ []
+behind_none at [] all = refl
+behind_none at (x ∷ xs) all =
+    let cases = before_by (x == at) x (before at xs) xs all in
+    rw cases.0 (behind_none at xs cases.1)
+
+behind_whole : (at : ℕ) (xs ys : List ℕ) → before at xs ≡ xs → behind at (xs ++ at ∷ ys) ≡ ys
+behind_whole at [] ys all =
+    let is : (at == at) ≡ true = grind (arith, nat_tests) in
+    rw is refl
+behind_whole at (x ∷ xs) ys all =
+    let cases = before_by (x == at) x (before at xs) xs all in
+    rw cases.0 (behind_whole at xs ys cases.1)
+
+-- no `#` was read
+pub has_read_part : (old mid new : Option (List ℕ)) (kept : List ℕ) (is_long : Bool)
+    → HasRead old mid kept is_long → Keeps mid new
+    → (bytes : List ℕ) × Consumes old new bytes × (before 35 bytes ≡ bytes)
+has_read_part old mid new kept is_long so_far same =
+    (so_far.bytes, Consumes-kept old mid new so_far.bytes so_far.consumed same, so_far.up_to)
+
+pub begun_bytes : (old new : Option (List ℕ)) → (bytes : List ℕ) × Consumes old new bytes × (before 35 bytes ≡ bytes)
+    → (read : List ℕ) × Consumes old new read × (length (behind 35 read) < 2)
+begun_bytes old new (bytes, consumed, up_to) = (bytes, consumed, rw (behind_none 35 bytes up_to) (lit< tt))
+
+pub begun_digits : (old mid new : Option (List ℕ)) (bytes : List ℕ) → Consumes old mid (bytes ++ 35 ∷ [])
+    → before 35 bytes ≡ bytes → (read : List ℕ) × (length read < 2) × Consumes mid new read
+    → (read : List ℕ) × Consumes old new read × (length (behind 35 read) < 2)
+begun_digits old mid new bytes first up_to (digits, few, last) = (
+  bytes ++ 35 ∷ digits,
+  subst (λ (xs : List ℕ). Consumes old new xs) (append_assoc bytes (35 ∷ []) digits)
+      (Consumes-trans old mid new (bytes ++ 35 ∷ []) digits first last),
+  rw (behind_whole 35 bytes digits up_to) few,
+)
+
+-- a packet that has begun
+pub exchanges_begun : {R W : Type 0} (remaining : R → Option (List ℕ)) (contents : W → Option (List ℕ))
+    (old : Link R W) (reader : R) (acknowledges : Bool) (last : List ℕ)
+    → (read : List ℕ) × Consumes (remaining old.reader) (remaining reader) read × (length (behind 35 read) < 2)
+    → Exchanges remaining contents old (record old { reader = reader })
+    (λ read written. Waits acknowledges last (36 ∷ read) written)
+exchanges_begun remaining contents old reader acknowledges last (read, consumed, few) = record {
+  read = read;
+  written = [];
+  consumed = consumed;
+  appended = appends_none (contents old.writer);
+  meant = record {
+    past = [];
+    begun = 36 ∷ read;
+    all = refl;
+    none = λ received rest more later. later;
+    no_packet = (refl, few);
+  };
+}
+
+-- nothing has
+pub exchanges_end : {R W : Type 0} (remaining : R → Option (List ℕ)) (contents : W → Option (List ℕ))
+    (old mid : Link R W) (reader : R) (acknowledges : Bool) (last : List ℕ)
+    → Exchanges remaining contents old mid (ComesTo acknowledges last None)
+    → Keeps (remaining mid.reader) (remaining reader)
+    → Exchanges remaining contents old (record mid { reader = reader }) (Waits acknowledges last)
+exchanges_end remaining contents old mid reader acknowledges last so_far same = record {
+  read = so_far.read;
+  written = so_far.written;
+  consumed = Consumes-kept (remaining old.reader) (remaining mid.reader) (remaining reader) so_far.read so_far.consumed same;
+  appended = so_far.appended;
+  meant = record {
+    past = so_far.read;
+    begun = [];
+    all = sym (append-nil so_far.read);
+    none = so_far.meant;
+    no_packet = tt;
+  };
+}
+
+waits_after : (acknowledges : Bool) (last read written rest more : List ℕ) → ComesTo acknowledges last None read written
+    → Waits acknowledges last rest more → Waits acknowledges last (read ++ rest) (written ++ more)
+waits_after acknowledges last read written rest more first later = record {
+  past = read ++ later.past;
+  begun = later.begun;
+  all = ap (λ (xs : List ℕ). read ++ xs) later.all ∙ sym (append_assoc read later.past later.begun);
+  none = comes_after acknowledges last None read written later.past more first later.none;
+  no_packet = later.no_packet;
+}
+
+pub exchanges_waits : {R W : Type 0} (remaining : R → Option (List ℕ)) (contents : W → Option (List ℕ))
+    (old mid new : Link R W) (reader : R) (acknowledges flag : Bool) (last kept : List ℕ) (b : ℕ)
+    → Exchanges remaining contents old mid (ComesTo acknowledges last None)
+    → Consumes (remaining mid.reader) (remaining reader) (b ∷ []) → flag ≡ acknowledges → kept ≡ last
+    → Exchanges remaining contents (record mid { reader = reader }) new (λ read written. Waits flag kept (b ∷ read) written)
+    → Exchanges remaining contents old new (Waits acknowledges last)
+exchanges_waits remaining contents old mid new reader acknowledges flag last kept b first one same_flag same_last later =
+    exchanges_then remaining contents _ _ _ old mid new reader b first one later
+    (waits_after acknowledges last first.read first.written (b ∷ later.read) later.written first.meant
+    (subst (λ (xs : List ℕ). Waits acknowledges xs (b ∷ later.read) later.written) same_last
+    (subst (λ (is : Bool). Waits is kept (b ∷ later.read) later.written) same_flag later.meant)))
+
+-- nothing is asked
+pub requests_none : {R W : Type 0} (remaining : R → Option (List ℕ)) (contents : W → Option (List ℕ)) (link : Link R W)
+    → Requests remaining contents None link link
+requests_none remaining contents link =
+    let here = exchanges_none remaining contents link link.acknowledges link.last.items in
+    Ends link link (exchanges_end remaining contents link link link.reader link.acknowledges link.last.items here
+    (Keeps-refl (remaining link.reader)))

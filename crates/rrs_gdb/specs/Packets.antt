@@ -135,6 +135,20 @@ ComesTo acknowledges last None read written =
     → Receives acknowledges last received rest more
     → Receives acknowledges last received (read ++ rest) (written ++ more)
 
+-- no whole packet: nothing, or a `$` with less than a `#` and two digits behind it
+abbrev pub IsBegun : List ℕ → Type 0
+IsBegun [] = Unit {0}
+IsBegun (b ∷ bs) = (b ≡ 36) × (length (behind 35 bs) < 2)
+
+-- The bytes that are read where no packet is received, and the bytes that are written meanwhile:
+-- those of which none is received, and what has begun behind them.
+pub record Waits (acknowledges : Bool) (last read written : List ℕ) : Type 0 where
+  pub past : List ℕ
+  pub begun : List ℕ
+  pub all : read ≡ past ++ begun
+  pub none : ComesTo acknowledges last None past written
+  pub no_packet : IsBegun begun
+
 -- ---- the numbers and the fields of a payload
 
 -- one to eight hexadecimal digits, and the number that they are

@@ -30,6 +30,7 @@ use Rattle.rrs_gdb.specs.declared.session.Next.TheVariants.{Reply, ReplyAndEnd, 
 use Rattle.rrs_gdb.specs.declared.session.SessionEnd.{SessionEnd}
 use Rattle.rrs_gdb.specs.declared.session.SessionEnd.TheVariants as Ending
 use Rattle.rrs_gdb.specs.declared.state.SessionState.{SessionState}
+use Rattle.rrs_gdb.specs.declared.state.CallMark.{CallMark}
 use Rattle.rrs_gdb.specs.declared.state.Caught.{Caught}
 use Rattle.rrs_gdb.specs.declared.state.Stop.{Stop}
 use Rattle.rrs_gdb.specs.declared.state.Stop.TheVariants.{Signal, Touched, AtBegin, Entry, Return, Exited}
@@ -672,6 +673,14 @@ pub record CallTakenBack (e e' : Recording) : Type 0 where
   pub output_kept : e'.output ≡ e.output
   pub errors_kept : e'.errors ≡ e.errors
   pub held_kept : e'.held ≡ e.held
+
+-- What was noted before the call is given back: the input that was left, the break, and how much
+-- output had been made. The calls before it are noted still.
+pub record GivenBack (mark : CallMark) (old new : SessionState) (e e' : Recording) : Type 0 where
+  pub input : e'.input.now ≡ drop (length old.input.now - mark.left) old.input.now
+  pub top : e'.heap ≡ record e.heap { top = mark.top }
+  pub made : new.made ≡ mark.made
+  pub calls : new.calls.items ≡ drop 1 old.calls.items
 
 -- where a run back stops, and why
 abbrev pub stop_back : BackEnd → Stop

@@ -2,7 +2,7 @@
 -- each byte as two hexadecimal digits, and a register as its bytes, the lowest first. The registers
 -- are x0 to x31 and then the pc, by the numbers of the target's description. And how it is told
 -- where the program stopped ("Stop Reply Packets": S, T, W and X).
-use Rattle.std.specs.Prelude.{◌≡◌, ℕ, zero, suc, ◌+◌, ◌*◌, ◌/◌, ◌%◌, ◌<◌, ◌≤◌, ◌==◌, if◌then◌else◌, List, [], ◌∷◌, ◌++◌, length, slice_index, slice_set, false, Option, Some, codes}
+use Rattle.std.specs.Prelude.{◌≡◌, ℕ, zero, suc, ◌+◌, ◌*◌, ◌/◌, ◌%◌, ◌<◌, ◌≤◌, ◌==◌, if◌then◌else◌, List, [], ◌∷◌, ◌++◌, length, slice_index, slice_set, false, Option, None, Some, codes}
 use Rattle.std.specs.Io.KnownBytes.{Appends, Consumes}
 use Rattle.std.specs.Fmt.{digits}
 use Rattle.rrs_lib.specs.Bytes.{ByteMap}
@@ -14,7 +14,7 @@ use Rattle.rrs_gdb.specs.declared.state.Stop.TheVariants.{Signal, Touched, AtBeg
 use Rattle.rrs_gdb.specs.declared.link.Link.{Link}
 use Rattle.rrs_gdb.specs.declared.link.Received.{Received}
 use Rattle.rrs_gdb.specs.declared.link.Received.TheVariants.{Packet, Bad}
-use Rattle.rrs_gdb.specs.Packets.{Receives, digits_of, packet}
+use Rattle.rrs_gdb.specs.Packets.{Receives, Waits, digits_of, packet}
 
 -- bytes as digits
 abbrev pub text_of : List ℕ → List ℕ
@@ -113,16 +113,19 @@ abbrev pub IsPayload : List ℕ → Received → Type 0
 IsPayload payload (Packet bytes) = bytes.items ≡ payload
 IsPayload payload _ = ⊥
 
--- What is asked on a link, after packets that are no good, each of which is answered by an error
--- (`EINVAL`, 22).
+-- What is asked on a link, if anything is before the input ends, after packets that are no good,
+-- each of which is answered by an error (`EINVAL`, 22).
 pub data Requests {R W : Type 0} (remaining : R → Option (List ℕ))
-    (contents : W → Option (List ℕ)) (payload : List ℕ) : Link R W → Link R W → Type 0 where
-  Asks : (old new : Link R W) (asked : Received) → IsPayload payload asked
+    (contents : W → Option (List ℕ)) : Option (List ℕ) → Link R W → Link R W → Type 0 where
+  Asks : (old new : Link R W) (payload : List ℕ) (asked : Received) → IsPayload payload asked
       → Exchanges remaining contents old new (Receives old.acknowledges old.last.items asked)
-      → Requests remaining contents payload old new
-  Refuses : (old mid next new : Link R W)
+      → Requests remaining contents (Some payload) old new
+  Ends : (old new : Link R W)
+      → Exchanges remaining contents old new (Waits old.acknowledges old.last.items)
+      → Requests remaining contents None old new
+  Refuses : (asked : Option (List ℕ)) (old mid next new : Link R W)
       → Exchanges remaining contents old mid (Receives old.acknowledges old.last.items Bad)
-      → next.reader ≡ mid.reader
+      → next.reader ≡ mid.reader → next.last.items ≡ packet (codes "E16")
       → Appends (contents mid.writer) (contents next.writer) (packet (codes "E16"))
-      → Requests remaining contents payload next new
-      → Requests remaining contents payload old new
+      → Requests remaining contents asked next new
+      → Requests remaining contents asked old new

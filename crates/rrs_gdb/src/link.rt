@@ -1,9 +1,9 @@
 //! The two streams of a session.
 
-ghost use Rattle.std.specs.Prelude.{◌≡◌, ◌≢◌, ◌∷◌, ◌++◌, ℕ, List, [], OnOk, IfOk, IfSome, MatchOption, Some, length, take, nat_lt, codes, false, true};
-ghost use Rattle.std.specs.Io.KnownBytes.{Appends, Consumes};
+ghost use Rattle.std.specs.Prelude.{◌≡◌, ◌≢◌, ◌∷◌, ◌++◌, ◌<◌, ℕ, List, [], OnOk, IfOk, IfSome, MatchOption, Some, length, take, nat_lt, codes, false, true};
+ghost use Rattle.std.specs.Io.KnownBytes.{Appends, Consumes, Keeps};
 ghost use Rattle.rrs_gdb.specs.declared.link.Received.{Received};
-ghost use Rattle.rrs_gdb.specs.Packets.{before, ComesTo, IsFrame, IsMeaning, Receives, packet, since_last};
+ghost use Rattle.rrs_gdb.specs.Packets.{before, behind, ComesTo, IsFrame, IsMeaning, Receives, Waits, packet, since_last};
 ghost use Rattle.rrs_gdb.specs.Shown.{Exchanges, Prints, output_packet};
 
 use crate::framing::{PacketError, decode, encode, push_bytes};
@@ -84,13 +84,13 @@ impl<R, W> Link<R, W> {
 
 /// The next byte of a reader, if it has one. A read that fails is an end.
 fn next_byte<R: Read>(reader: &mut R) -> Option<u8>
-    ensures { IfSome result (λ byte.
+    ensures { MatchOption result (Keeps (R.remaining reader.old) (R.remaining reader.new)) (λ byte.
         Consumes (R.remaining reader.old) (R.remaining reader.new) (byte ∷ [])) }
 {
     let mut byte = [0_u8; 1];
     match reader.read(&mut byte) {
-        Ok(1) => Some(byte[0]),
-        _ => None,
+        Ok(0) | Err(_) => None,
+        Ok(_) => Some(byte[0]),
     }
 }
 
@@ -107,7 +107,8 @@ struct Frame {
 
 /// The two digits of a packet.
 fn read_digits<R: Read>(reader: &mut R) -> Option<[u8; 2]>
-    ensures { IfSome result (λ digits.
+    ensures { MatchOption result ((read : List ℕ) × (length read < 2)
+        × Consumes (R.remaining reader.old) (R.remaining reader.new) read) (λ digits.
         Consumes (R.remaining reader.old) (R.remaining reader.new) digits) }
 {
     let high = next_byte(reader)?;
@@ -118,7 +119,9 @@ fn read_digits<R: Read>(reader: &mut R) -> Option<[u8; 2]>
 /// The bytes of a packet after its `$` and up to its `#`, which is read too, and whether there were
 /// more than a packet may have; `None` at the end of the input. A `$` begins another packet.
 fn read_bytes<R: Read>(alloc: Global, reader: &mut R) -> Result<Option<(Vec<u8>, bool)>, AllocError>
-    ensures { IfOk result (λ found. IfSome found (λ kept. (bytes : List ℕ)
+    ensures { IfOk result (λ found. MatchOption found ((bytes : List ℕ)
+        × Consumes (R.remaining reader.old) (R.remaining reader.new) bytes
+        × (before 35 bytes ≡ bytes)) (λ kept. (bytes : List ℕ)
         × Consumes (R.remaining reader.old) (R.remaining reader.new) (bytes ++ 35 ∷ [])
         × (before 35 bytes ≡ bytes)
         × (kept.0.items ≡ take 16384 (since_last 36 [] bytes))
@@ -145,7 +148,9 @@ fn read_bytes<R: Read>(alloc: Global, reader: &mut R) -> Result<Option<(Vec<u8>,
 
 /// A packet after its `$`, from a reader; `None` at the end of the input.
 fn read_frame<R: Read>(alloc: Global, reader: &mut R) -> Result<Option<Frame>, AllocError>
-    ensures { IfOk result (λ found. IfSome found (λ frame. (read : List ℕ)
+    ensures { IfOk result (λ found. MatchOption found ((read : List ℕ)
+        × Consumes (R.remaining reader.old) (R.remaining reader.new) read
+        × (length (behind 35 read) < 2)) (λ frame. (read : List ℕ)
         × Consumes (R.remaining reader.old) (R.remaining reader.new) read × IsFrame read frame)) }
 {
     let Some((bytes, is_long)) = read_bytes(alloc, reader)? else {
@@ -263,6 +268,9 @@ impl<R: Read, W: Write> Link<R, W> {
         ensures received { IfOk result (λ found. found ≢ Some Received.End
             → Exchanges R.remaining W.contents self.old self.new (λ read written. ComesTo
             self.old.acknowledges self.old.last.items found (36 ∷ read) written)) }
+        ensures ended { IfOk result (λ found. found ≡ Some Received.End
+            → Exchanges R.remaining W.contents self.old self.new (λ read written. Waits
+            self.old.acknowledges self.old.last.items (36 ∷ read) written)) }
         ensures last { self.new.last ≡ self.old.last }
         ensures acknowledges { self.new.acknowledges ≡ self.old.acknowledges }
     {
@@ -280,6 +288,9 @@ impl<R: Read, W: Write> Link<R, W> {
         ensures received { IfOk result (λ found. found ≢ Some Received.End
             → Exchanges R.remaining W.contents self.old self.new (λ read written. ComesTo
             self.old.acknowledges self.old.last.items found (byte ∷ read) written)) }
+        ensures ended { IfOk result (λ found. found ≡ Some Received.End
+            → Exchanges R.remaining W.contents self.old self.new (λ read written. Waits
+            self.old.acknowledges self.old.last.items (byte ∷ read) written)) }
         ensures last { self.new.last ≡ self.old.last }
         ensures acknowledges { self.new.acknowledges ≡ self.old.acknowledges }
     {
@@ -297,7 +308,8 @@ impl<R: Read, W: Write> Link<R, W> {
     /// sent again. A read that fails is the end of the input.
     ///
     /// The clauses: the packet is that of the bytes that were read, and what is written meanwhile
-    /// are acknowledgments and the last packet, as they were asked for (`received`).
+    /// are acknowledgments and the last packet, as they were asked for (`received`). Where the input
+    /// ends, the bytes that were read have no whole packet (`ended`).
     ///
     /// # Errors
     ///
@@ -306,6 +318,9 @@ impl<R: Read, W: Write> Link<R, W> {
         ensures received { IfOk result (λ received. received ≢ Received.End
             → Exchanges R.remaining W.contents self.old self.new (Receives
             self.old.acknowledges self.old.last.items received)) }
+        ensures ended { IfOk result (λ received. received ≡ Received.End
+            → Exchanges R.remaining W.contents self.old self.new (Waits
+            self.old.acknowledges self.old.last.items)) }
         ensures last { self.new.last ≡ self.old.last }
         ensures acknowledges { self.new.acknowledges ≡ self.old.acknowledges }
     {

@@ -1,12 +1,12 @@
 //! The program goes on, forward and back.
 
-ghost use Rattle.std.specs.Prelude.{◌≡◌, ◌≢◌, ◌+◌, ◌-◌, ◌%◌, ◌^◌, ◌<◌, ◌++◌, drop, length, false, Contains, IfOk, MatchOption, OnOk};
+ghost use Rattle.std.specs.Prelude.{◌≡◌, ◌≢◌, ◌+◌, ◌-◌, ◌%◌, ◌^◌, ◌<◌, ◌++◌, drop, length, slice_get, false, Contains, IfOk, MatchOption, OnOk};
 ghost use Rattle.std.specs.Bool.{OnTrue, OnFalse};
 ghost use Rattle.rrs_gdb.specs.declared.back.BackEnd.{BackEnd};
 ghost use Rattle.rrs_lib.specs.Executor.{state_in};
 ghost use Rattle.rrs_linux.specs.Recording.{Recording};
 ghost use Rattle.rrs_gdb.specs.Shown.{Prints};
-ghost use Rattle.rrs_gdb.specs.Sessions.{CallMade, CallStops, CallTakenBack, GoesOn, IsAfterCall, OutputTaken, PassesBefore, PlacesKept, PrintsCall, SessionGoesBack, StopsBefore, StopsBehind, around, asked_by, ends_at_call, is_call, signal_of, still, stop_back, stop_of, stopped_at};
+ghost use Rattle.rrs_gdb.specs.Sessions.{CallMade, CallStops, CallTakenBack, GivenBack, GoesOn, IsAfterCall, OutputTaken, PassesBefore, PlacesKept, PrintsCall, SessionGoesBack, StopsBefore, StopsBehind, around, asked_by, ends_at_call, is_call, signal_of, still, stop_back, stop_of, stopped_at};
 
 use crate::back::{BackEnd, go_back};
 use crate::forward::{ForwardEnd, ForwardReason, go_forward};
@@ -286,6 +286,9 @@ fn take_call_back<'a>(state: &mut SessionState<'a>, environment: &mut OutputReco
     ensures history { state.new.history ≡ state.old.history }
     ensures steps { state.new.steps ≡ state.old.steps }
     ensures taken { CallTakenBack environment.old environment.new }
+    ensures given { MatchOption (slice_get state.old.calls.items 0)
+        ((state.new.made ≡ state.old.made) × (environment.new ≡ environment.old)) (λ mark.
+        GivenBack mark state.old state.new environment.old environment.new) }
 {
     if let Some(mark) = state.calls.pop_front() {
         let input = state.input;

@@ -1,6 +1,6 @@
 //! The packets of a session, and their answers.
 
-ghost use Rattle.std.specs.Prelude.{◌≡◌, ◌≢◌, ◌⊎◌, ◌∷◌, ◌++◌, [], ℕ, ◌<◌, ◌≤◌, ◌-◌, ◌^◌, Bool, List, Ok, Some, None, IsOk, IsTrue, IfOk, IfSome, IfNone, MatchOption, OnOk, drop, length, slice_index, codes, map, string_bytes, false, true};
+ghost use Rattle.std.specs.Prelude.{◌≡◌, ◌≢◌, ◌⊎◌, ◌∷◌, ◌++◌, [], ℕ, ◌<◌, ◌≤◌, ◌-◌, ◌^◌, Bool, List, Ok, Some, None, IsOk, IsTrue, IfOk, IfSome, IfNone, MatchOption, OnOk, drop, length, option_map, slice_index, codes, map, string_bytes, false, true};
 ghost use Rattle.std.specs.Bool.{OnTrue, OnFalse};
 ghost use Rattle.std.specs.Io.KnownBytes.{Appends};
 ghost use Rattle.std.specs.Str.{IsUtf8};
@@ -1207,8 +1207,8 @@ fn answer<'a, M: Memory, G: StopRunner<M>, R: Read, W: Write>(
 /// The payload of the next packet, if there is one. A packet that is no good is answered by an
 /// error.
 fn next_payload<R: Read, W: Write>(link: &mut Link<R, W>) -> Result<Option<Vec<u8>>, LinkError>
-    ensures received { IfOk result (λ found. IfSome found (λ payload.
-        Requests R.remaining W.contents payload.items link.old link.new)) }
+    ensures { IfOk result (λ found. Requests R.remaining W.contents
+        (option_map (λ payload. payload.items) found) link.old link.new) }
 {
     for _ in 0..u64::MAX {
         match link.receive()? {
