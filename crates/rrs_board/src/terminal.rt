@@ -1,8 +1,9 @@
 //! A board at a terminal: what its UART transmits is written, and what it receives is read.
 
-ghost use Rattle.std.specs.Prelude.{◌≡◌, [], ◌∷◌, Some, true, false, IfOk, OnOk, IfErr, MatchOption, MatchResult};
+ghost use Rattle.std.specs.Prelude.{◌≡◌, ◌≢◌, [], ◌∷◌, Some, true, false, IfOk, OnOk, IfErr, OnErr, MatchOption, MatchResult};
 ghost use Rattle.std.specs.Bool.{OnTrue, OnFalse};
 ghost use Rattle.std.specs.Io.KnownBytes.{Appends, Consumes, Keeps, IsAtEnd};
+ghost use Rattle.std.specs.IoError.{error_kind};
 ghost use Rattle.rrs_board.specs.Effects.{waits_for_input};
 ghost use Rattle.rrs_board.specs.declared.effects.BoardEvent.{BoardEvent};
 ghost use Rattle.rrs_board.specs.Terminals.{looks_after, Asks, EndsBy, GoesOn, Asked, Untouched, EndedSession, StoppedSession};
@@ -187,18 +188,27 @@ fn print<W: Write>(output: &mut W, byte: u8) -> Result<(), TerminalError>
     ensures error { IfErr result (λ error. (error ≡ TerminalError.Output)
         × Keeps (W.contents output.old) (W.contents output.new)) }
 {
+    write_byte(output, byte).map_err(|_| TerminalError::Output)
+}
+
+/// Writes a byte. A write that is interrupted is made again.
+fn write_byte<W: Write>(output: &mut W, byte: u8) -> io::Result<()>
+    ensures ok { OnOk result (Appends (W.contents output.old) (W.contents output.new) (byte ∷ [])) }
+    ensures kept { OnErr result (Keeps (W.contents output.old) (W.contents output.new)) }
+    ensures again { IfErr result (λ error. error_kind error ≢ ErrorKind.Interrupted) }
+{
     for _ in 0..u64::MAX {
         match output.write(&[byte]) {
-            Ok(0) => return Err(TerminalError::Output),
+            Ok(0) => return Err(io::Error::from(ErrorKind::WriteZero)),
             Ok(_) => return Ok(()),
-            Err(error) => {
-                if error.kind() != ErrorKind::Interrupted {
-                    return Err(TerminalError::Output);
+            Err(failure) => {
+                if failure.kind() != ErrorKind::Interrupted {
+                    return Err(failure);
                 }
             }
         }
     }
-    Err(TerminalError::Output)
+    Err(io::Error::from(ErrorKind::TimedOut))
 }
 
 /// Flushes the output.
@@ -209,7 +219,7 @@ fn flush<W: Write>(output: &mut W) -> Result<(), TerminalError>
     output.flush().map_err(|_| TerminalError::Output)
 }
 
-/// The next byte of the input, or `None` at its end. A read that is interrupted is made again.
+/// The next byte of the input, or `None` at its end.
 fn next_byte<R: Read>(input: &mut R) -> Result<Option<u8>, TerminalError>
     ensures byte { IfOk result (λ byte. MatchOption byte
         (Consumes (R.remaining input.old) (R.remaining input.new) []
@@ -218,17 +228,30 @@ fn next_byte<R: Read>(input: &mut R) -> Result<Option<u8>, TerminalError>
     ensures error { IfErr result (λ error. (error ≡ TerminalError.Input)
         × Consumes (R.remaining input.old) (R.remaining input.new) []) }
 {
+    read_byte(input).map_err(|_| TerminalError::Input)
+}
+
+/// The same. A read that is interrupted is made again.
+fn read_byte<R: Read>(input: &mut R) -> io::Result<Option<u8>>
+    ensures byte { MatchResult result
+        (λ byte. MatchOption byte
+        (Consumes (R.remaining input.old) (R.remaining input.new) []
+        × IsAtEnd (R.remaining input.new))
+        (λ b. Consumes (R.remaining input.old) (R.remaining input.new) (b ∷ [])))
+        (λ _. Consumes (R.remaining input.old) (R.remaining input.new) []) }
+    ensures again { IfErr result (λ error. error_kind error ≢ ErrorKind.Interrupted) }
+{
     for _ in 0..u64::MAX {
         match read_once(input) {
             Ok(byte) => return Ok(byte),
             Err(error) => {
                 if error.kind() != ErrorKind::Interrupted {
-                    return Err(TerminalError::Input);
+                    return Err(error);
                 }
             }
         }
     }
-    Err(TerminalError::Input)
+    Err(io::Error::from(ErrorKind::TimedOut))
 }
 
 /// Reads once: a byte, or `None` at the end.

@@ -1,6 +1,6 @@
 use Rattle.std.proofs.Common.{[]}
 use Rattle.std.specs.Io.KnownBytes.{Consumes}
-use Rattle.rrs_board.proofs.terminal.next_byte.Given as goal
+use Rattle.rrs_board.proofs.terminal.read_byte.Given as goal
 
 -- nothing is read yet
 abbrev pub invariant-loop : goal.invariant-loop

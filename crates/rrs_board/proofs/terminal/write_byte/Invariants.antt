@@ -1,5 +1,5 @@
 use Rattle.std.specs.Io.KnownBytes.{Keeps}
-use Rattle.rrs_board.proofs.terminal.print.Given as goal
+use Rattle.rrs_board.proofs.terminal.write_byte.Given as goal
 
 -- nothing is written yet
 abbrev pub invariant-loop : goal.invariant-loop
