@@ -1,10 +1,12 @@
 -- The segments of a file are written, and then a stack above them.
-use Rattle.std.proofs.Common.{◌≡◌, ◌⊎◌, ℕ, ◌+◌, ◌<◌, ◌≤◌, Bool, List, [], ◌++◌, length, slice_index, Some, inl, sym, ap, subst, ◌∙◌, arith, append-nil}
+use Rattle.std.proofs.Common.{◌≡◌, ◌⊎◌, ℕ, ◌+◌, ◌^◌, ◌<◌, ◌≤◌, Bool, false, List, [], ◌∷◌, ◌++◌, length, slice_index, Some, inl, inr, refl, sym, ap, subst, ◌∙◌, arith, append-nil}
 use Rattle.rrs_memory.specs.Bytes.{ByteMap}
 use Rattle.rrs_memory.specs.Loading.{Loaded}
 use Rattle.rrs_elf.specs.Headers.{e_phnum, p_vaddr}
 use Rattle.rrs_elf.specs.Loading.{Stands, loaded_size}
-use Rattle.rrs_exec.specs.Images.{Filled}
+use Rattle.rrs_exec.specs.Images.{Filled, IsRefusal}
+use Rattle.rrs_exec.specs.declared.image.ImageError.TheVariants.{Refused}
+use Rattle.std.proofs.lemmas.List.{length-append}
 
 pub filled_by : (file : List ℕ) (sp : ℕ) (stack input rest : List ℕ) (old mid new : ByteMap) (writable above : ℕ → Bool)
     → Stands file old mid writable (e_phnum file) 0 → Loaded mid new above sp input
@@ -21,3 +23,24 @@ filled_by file sp stack input rest old mid new writable above stands loaded all 
           let out : (a < sp) ⊎ (sp + length input ≤ a) = subst (λ bytes. (a < sp) ⊎ (sp + length bytes ≤ a)) (sym same) outside in
           loaded.others a out ∙ stands.others a apart (λ j none. absurd (omega (arith, none)));
     }
+
+-- a byte more was read of the stack
+one_more : (stack input rest : List ℕ) (byte : ℕ) → stack ≡ (input ++ byte ∷ []) ++ rest → length input < length stack
+one_more stack input rest byte all =
+    let whole = length-append (input ++ byte ∷ []) rest in
+    let part = length-append input (byte ∷ []) in
+    omega (arith, ap length all, whole, part)
+
+pub stack_refused : (file : List ℕ) (sp a : ℕ) (stack input rest : List ℕ) (byte : ℕ) (writable above : ℕ → Bool)
+    → above ≡ writable → a ≡ sp + length input → above a ≡ false → stack ≡ (input ++ byte ∷ []) ++ rest
+    → IsRefusal file sp (length stack) writable (Refused a)
+stack_refused file sp a stack input rest byte writable above same here is all =
+    let few = one_more stack input rest byte all in
+    inl (ap (λ w. w a) (sym same) ∙ is, inr (omega (arith, here), omega (arith, here, few)))
+
+pub stack_passes : (file : List ℕ) (sp : ℕ) (stack input rest : List ℕ) (byte : ℕ) (writable : ℕ → Bool)
+    → sp + length input ≡ 2 ^ 32 → stack ≡ (input ++ byte ∷ []) ++ rest
+    → IsRefusal file sp (length stack) writable (Refused sp)
+stack_passes file sp stack input rest byte writable full all =
+    let few = one_more stack input rest byte all in
+    inr (refl, omega (arith, full, few))

@@ -1,6 +1,6 @@
 -- What a process starts from that runs an executable (System V ABI, "Process Initialization" and
 -- "Program Loading").
-use Rattle.std.specs.Prelude.{◌≡◌, ◌==◌, ◌≢◌, ◌⊎◌, ℕ, zero, suc, ◌+◌, ◌-◌, ◌/◌, ◌%◌, ◌^◌, ◌<◌, ◌≤◌, Bool, true, ◌&&◌, ◌||◌, nat_le, nat_lt, min, max, if◌then◌else◌, List, [], ◌∷◌, ◌++◌, length, slice_index, Option, Some, None}
+use Rattle.std.specs.Prelude.{◌≡◌, ◌==◌, ◌≢◌, ◌⊎◌, ℕ, zero, suc, ◌+◌, ◌-◌, ◌/◌, ◌%◌, ◌^◌, ◌<◌, ◌≤◌, Bool, true, false, ◌&&◌, ◌||◌, nat_le, nat_lt, min, max, if◌then◌else◌, List, [], ◌∷◌, ◌++◌, length, slice_index, Option, Some, None}
 use Rattle.rrs_memory.specs.Bytes.{ByteMap}
 use Rattle.rrs_elf.specs.Headers.{e_entry, e_phoff, e_phnum, p_type, p_offset, p_vaddr, p_filesz, p_memsz, p_flags}
 use Rattle.rrs_elf.specs.Executables.{PT_LOAD}
@@ -14,7 +14,7 @@ use Rattle.rrs_exec.specs.declared.image.Image.{Image}
 use Rattle.rrs_exec.specs.Protection.{IsMarkedBy}
 use Rattle.rrs_exec.specs.InitialStack.{stack_bytes, stack_pointer, stack_block}
 use Rattle.rrs_exec.specs.declared.image.ImageError.{ImageError}
-use Rattle.rrs_exec.specs.declared.image.ImageError.TheVariants.{NoRoom, NeedsMemory, LongArguments, OutOfMemory}
+use Rattle.rrs_exec.specs.declared.image.ImageError.TheVariants.{NoRoom, NeedsMemory, LongArguments, Refused, OutOfMemory}
 use Rattle.rrs_exec.specs.Layouts.{has_room, needed, IsLayout}
 
 -- the addresses of the first n segments that are loaded lie from start to before end
@@ -163,6 +163,20 @@ pub record IsFillable (file : List ℕ) (sp size : ℕ) (writable : ℕ → Bool
       → writable (p_vaddr file i + j) ≡ true
   pub stack : (k : ℕ) → k < size → writable (sp + k) ≡ true
   pub ends : sp + size < 2 ^ 32
+
+-- an address of the segments, or one of so many from sp on
+abbrev pub IsToFill : List ℕ → ℕ → ℕ → ℕ → Type 0
+IsToFill file sp size a =
+    ((i j : ℕ) × (i < e_phnum file) × (j < loaded_size file i) × (a ≡ p_vaddr file i + j))
+    ⊎ (sp ≤ a) × (a < sp + size)
+
+-- Why a memory is not filled: it refuses such an address, or the stack passes the last address,
+-- for which sp is told; or the host has no memory.
+abbrev pub IsRefusal : List ℕ → ℕ → ℕ → (ℕ → Bool) → ImageError → Type 0
+IsRefusal file sp size writable (Refused a) =
+    (writable a ≡ false) × IsToFill file sp size a ⊎ (a ≡ sp) × (2 ^ 32 < sp + size)
+IsRefusal file sp size writable OutOfMemory = Unit {0}
+IsRefusal file sp size writable _ = ⊥
 
 -- The segments of a file stand in memory, each with the bytes of the file and then zeros, and the
 -- bytes of a stack from sp on; all other bytes are as before.

@@ -7,7 +7,7 @@ ghost use Rattle.rrs_elf.specs.Loading.{loaded_size};
 ghost use Rattle.rrs_elf.specs.ProgramHeaders.{IsProgramHeader};
 ghost use Rattle.rrs_exec.specs.InitialStack.{stack_bytes, stack_pointer};
 ghost use Rattle.rrs_exec.specs.Layouts.{IsLayout};
-ghost use Rattle.rrs_exec.specs.Images.{AreLong, first_with, end_with, first_address, end_address, memory_refusal, refusal_between, IsOtherReason, IsImage, IsFillable, Filled, headers_in, headers_of, protection_by, range_of, segment_range, segment_ranges, writable_range, ranges_of, needed_of};
+ghost use Rattle.rrs_exec.specs.Images.{AreLong, first_with, end_with, first_address, end_address, memory_refusal, refusal_between, IsOtherReason, IsImage, IsFillable, IsRefusal, Filled, headers_in, headers_of, protection_by, range_of, segment_range, segment_ranges, writable_range, ranges_of, needed_of};
 
 use crate::layout::{Layout, has_room, layout_of, needed_bytes};
 use crate::marks::{PAGE_BYTES, PageRange, Protection, marks_of};
@@ -321,7 +321,8 @@ pub fn image_of(
 /// # Errors
 ///
 /// `ImageError::Refused` with the first address that the memory refuses, or with `sp` where the
-/// stack passes the last address. A memory that is writable there is not refused (`fillable`).
+/// stack passes the last address (`refused`). A memory that is writable there is not refused
+/// (`fillable`).
 pub fn fill<M: Memory>(
     executable: &Executable<'_>,
     sp: u32,
@@ -339,6 +340,8 @@ pub fn fill<M: Memory>(
     ensures layout_kept { M.layout memory.new ≡ M.layout memory.old }
     ensures fillable { IsFillable executable.now.file.now sp (length stack.now)
         (M.writable memory.old) → IfErr result (λ error. error ≡ ImageError.OutOfMemory) }
+    ensures refused { IfErr result
+        (IsRefusal executable.now.file.now sp (length stack.now) (M.writable memory.old)) }
 {
     if let Err(refused) = executable.load(memory) {
         return Err(ImageError::Refused(refused.address));

@@ -1,6 +1,7 @@
 -- The load leaves the segments, and the stack is written above them.
+use Rattle.std.proofs.Common.{inl}
 use Rattle.rrs_lib.proofs.Making.{Makes-append}
-use Rattle.rrs_exec.proofs.Filling.{filled_by}
+use Rattle.rrs_exec.proofs.Filling.{filled_by, stack_passes, stack_refused}
 use Rattle.rrs_exec.proofs.image.fill.Goals as goal
 
 pub returns-in-Ok-clause-filled : goal.returns-in-Ok-clause-filled
@@ -20,3 +21,8 @@ pub returns-in-Err-clause-fillable : goal.returns-in-Err-clause-fillable
 returns-in-Err-clause-fillable g c = λ there.
     let stops = c.in-Err.ensures.refused in
     absurd (cc (stops.not_writable, stops.here, there.segments stops.n stops.k stops.numbered stops.within))
+
+pub returns-in-Err-clause-refused : goal.returns-in-Err-clause-refused
+returns-in-Err-clause-refused g c =
+    let stops = c.in-Err.ensures.refused in
+    inl (stops.not_writable, inl (stops.n, stops.k, stops.numbered, stops.within, stops.here))
