@@ -2,6 +2,7 @@
 -- packets ask, and change nothing of the program.
 use Rattle.std.specs.Prelude.{◌≡◌, ◌≢◌, ◌⊎◌, ℕ, zero, suc, ◌+◌, ◌-◌, ◌*◌, ◌%◌, ◌^◌, ◌<◌, ◌≤◌, List, [], ◌++◌, Contains, map, string_bytes, Bool, true, false, drop, take, length, slice_index, nat_lt, if◌then◌else◌, Option, Some, None, Ok, Err, IsOk, codes}
 use Rattle.std.specs.Fmt.{digits}
+use Rattle.std.specs.Io.KnownBytes.{Appends}
 use Rattle.hex.specs.Hex.{decode_of, decode_sized}
 use Rattle.rrs_lib.specs.Bytes.{ByteMap}
 use Rattle.rrs_lib.specs.Loading.{Loaded}
@@ -40,8 +41,8 @@ use Rattle.rrs_history.specs.Histories.{changes, room, past}
 use Rattle.rrs_gdb.specs.declared.back.BackEnd.{BackEnd}
 use Rattle.rrs_gdb.specs.declared.back.BackEnd.TheVariants as Back
 use Rattle.rrs_gdb.specs.Breaks.{GoesForward, GoesBack, KeepsSteps, WithBreak, WithoutBreak}
-use Rattle.rrs_gdb.specs.Packets.{AreNumbers, AreTexts, IsDecimal, IsNumber, decimal, number, before, behind, IsPlace, address_in, length_in}
-use Rattle.rrs_gdb.specs.Shown.{Prints, register, register_text, text_of, with_register, word_at, HasBytes, stop_text}
+use Rattle.rrs_gdb.specs.Packets.{AreNumbers, AreTexts, IsDecimal, IsNumber, decimal, number, before, behind, IsPlace, address_in, length_in, packet}
+use Rattle.rrs_gdb.specs.Shown.{Prints, Turns, register, register_text, registers_text, text_of, with_register, word_at, HasBytes, stop_text}
 
 -- the letter of a packet: the first byte of its payload
 abbrev pub letter : List ℕ → ℕ
@@ -764,3 +765,42 @@ abbrev pub HasNoSignal : List ℕ → Type 0
 HasNoSignal action =
     (letter action ≡ 83 → ¬ IsSignal (before 59 (drop 1 action)))
     × (letter action ≡ 67 → ¬ IsSignal (before 59 (drop 1 action)))
+
+-- ---- a session
+
+-- a session, and the program that it is of
+pub record Debugged : Type 0 where
+  pub session : SessionState
+  pub program : State
+
+abbrev pub debugged : SessionState → State → Debugged
+debugged session program = record { session = session; program = program }
+
+-- The turn of a packet: it is answered, and may end the session.
+pub record Turn {R W : Type 0} (contents : W → Option (List ℕ)) (payload : List ℕ)
+    (m : Debugged) (old : Link R W) (n : Debugged) (new : Link R W) (end : Option SessionEnd)
+    : Type 0 where
+  -- `?` and `g`
+  pub stopped : payload ≡ codes "?"
+      → Appends (contents old.writer) (contents new.writer) (packet (stop_text m.session.stop))
+  pub shows : payload ≡ codes "g"
+      → Appends (contents old.writer) (contents new.writer) (packet (registers_text m.program))
+  -- what neither runs the program nor ends the session has one packet as its answer
+  pub answered : RunsNone payload → EndsNone payload → (reply : List ℕ)
+      × Appends (contents old.writer) (contents new.writer) (packet reply)
+  pub asks : ChangesNone payload → RunsNone payload → n.program ≡ m.program
+  pub goes_on : EndsNone payload → end ≡ None
+  pub ends : (letter payload ≡ 68) ⊎ (payload ≡ codes "k") → end ≡ Some Ending.Ended
+  pub restarts : letter payload ≡ 82 → end ≡ Some Ending.Restart
+
+-- A session goes so: gdb is told where the program stopped, if it waits for that, and then the
+-- packets have their turns.
+pub record Serves {R W : Type 0} (remaining : R → Option (List ℕ)) (contents : W → Option (List ℕ))
+    (m : Debugged) (old : Link R W) (n : Debugged) (new : Link R W) (end : SessionEnd)
+    : Type 0 where
+  pub begun : Link R W
+  pub owed : m.session.owes_stop ≡ true
+      → Appends (contents old.writer) (contents begun.writer) (packet (stop_text m.session.stop))
+  pub owes_none : m.session.owes_stop ≡ false → begun ≡ old
+  pub turns : Turns remaining contents (Turn contents) Ending.Ended
+      (debugged (record m.session { owes_stop = false }) m.program) begun n new end

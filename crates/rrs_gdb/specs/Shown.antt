@@ -129,3 +129,20 @@ pub data Requests {R W : Type 0} (remaining : R → Option (List ℕ))
       → Appends (contents mid.writer) (contents next.writer) (packet (codes "E16"))
       → Requests remaining contents asked next new
       → Requests remaining contents asked old new
+
+-- A session on a link: each packet that is asked has its turn, in order, until one ends the session
+-- or the input ends.
+pub data Turns {S E R W : Type 0} (remaining : R → Option (List ℕ)) (contents : W → Option (List ℕ))
+    (Turn : List ℕ → S → Link R W → S → Link R W → Option E → Type 0) (ended : E)
+    : S → Link R W → S → Link R W → E → Type 0 where
+  Over : (s : S) (old new : Link R W) → Requests remaining contents None old new
+      → Turns remaining contents Turn ended s old s new ended
+  Last : (s t : S) (old mid new : Link R W) (end : E) (payload : List ℕ)
+      → Requests remaining contents (Some payload) old mid
+      → Turn payload s mid t new (Some end)
+      → Turns remaining contents Turn ended s old t new end
+  Then : (s t u : S) (old mid next new : Link R W) (end : E) (payload : List ℕ)
+      → Requests remaining contents (Some payload) old mid
+      → Turn payload s mid t next None
+      → Turns remaining contents Turn ended t next u new end
+      → Turns remaining contents Turn ended s old u new end

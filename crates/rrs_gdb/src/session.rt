@@ -13,7 +13,7 @@ ghost use Rattle.rrs_gdb.specs.declared.session.Going.{Going};
 ghost use Rattle.rrs_gdb.specs.declared.session.Next.{Next};
 ghost use Rattle.rrs_gdb.specs.declared.session.SessionEnd.{SessionEnd};
 ghost use Rattle.rrs_gdb.specs.Answers.{BeginsBy, Goes, HasSubject, IsDone, Leaves, Means, Sets, Shows, moment};
-ghost use Rattle.rrs_gdb.specs.Sessions.{letter, Acts, CatchesOrStays, Manages, NamedBy, Tells, end_behind, BreaksKept, EndsBy, EndsNone, Monitors, BySignal, HasNoSignal, HasSignal, IsSignal, Signals, BreaksNone, GoesBy, GoesOnFrom, GoesOnOrStays, ForgetsOrStays, HasAction, HasLetter, HasRegisters, Most, Resumes, SetsRegisters, around, asked_by, has_ended, one_step, up_to, ChangesMemory, ChangesNone, ChangesRegister, IsError, MemoryKept, PlacesKept, RegistersKept, RemovesBreak, RunsNone, SessionGoesBack, SessionKept, SettingsKept, IsChangeable, SetsBreak, SetsBytes, SetsMemory, SetsRegister, ShowsBytes, ShowsMemory, ShowsRegister};
+ghost use Rattle.rrs_gdb.specs.Sessions.{letter, debugged, Acts, Serves, Turn, CatchesOrStays, Manages, NamedBy, Tells, end_behind, BreaksKept, EndsBy, EndsNone, Monitors, BySignal, HasNoSignal, HasSignal, IsSignal, Signals, BreaksNone, GoesBy, GoesOnFrom, GoesOnOrStays, ForgetsOrStays, HasAction, HasLetter, HasRegisters, Most, Resumes, SetsRegisters, around, asked_by, has_ended, one_step, up_to, ChangesMemory, ChangesNone, ChangesRegister, IsError, MemoryKept, PlacesKept, RegistersKept, RemovesBreak, RunsNone, SessionGoesBack, SessionKept, SettingsKept, IsChangeable, SetsBreak, SetsBytes, SetsMemory, SetsRegister, ShowsBytes, ShowsMemory, ShowsRegister};
 ghost use Rattle.rrs_gdb.specs.Packets.{AreTexts, IsNumber, number, before, behind, packet};
 ghost use Rattle.rrs_gdb.specs.Shown.{Requests, registers_text, stop_text, with_register, word_at};
 
@@ -1175,18 +1175,9 @@ fn answer<'a, M: Memory, G: StopRunner<M>, R: Read, W: Write>(
     link: &mut Link<R, W>,
     payload: &[u8],
 ) -> Result<Option<SessionEnd>, LinkError>
-    ensures stopped { payload.now ≡ codes "?" → OnOk result (Appends (W.contents link.old.writer)
-        (W.contents link.new.writer) (packet (stop_text state.old.stop))) }
-    ensures shows { payload.now ≡ codes "g" → OnOk result (Appends (W.contents link.old.writer)
-        (W.contents link.new.writer)
-        (packet (registers_text (state_in M.bytes M.writable executor.old)))) }
-    ensures answered { RunsNone payload.now → EndsNone payload.now → OnOk result ((reply : List ℕ)
-        × Appends (W.contents link.old.writer) (W.contents link.new.writer) (packet reply)) }
-    ensures goes_on { EndsNone payload.now → IfOk result (λ end. end ≡ None) }
-    ensures ends { (letter payload.now ≡ 68) ⊎ (payload.now ≡ codes "k")
-        → IfOk result (λ end. end ≡ Some SessionEnd.Ended) }
-    ensures restarts { letter payload.now ≡ 82
-        → IfOk result (λ end. end ≡ Some SessionEnd.Restart) }
+    ensures { IfOk result (Turn W.contents payload.now
+        (debugged state.old (state_in M.bytes M.writable executor.old)) link.old
+        (debugged state.new (state_in M.bytes M.writable executor.new)) link.new) }
 {
     let mut reply = Vec::new(link.alloc);
     let next = answer_to(
@@ -1241,6 +1232,9 @@ fn send_stop<R: Read, W: Write>(
 
 /// Answers the packets that gdb sends, until it ends the session or the program is to begin again.
 ///
+/// The clause: gdb is told where the program stopped, if it waits for that, and then each packet
+/// has its turn, in order, until one of them ends the session, or the input ends (`served`).
+///
 /// # Errors
 ///
 /// Out of memory, and a write that fails.
@@ -1250,7 +1244,11 @@ pub fn serve<'a, M: Memory, G: StopRunner<M>, R: Read, W: Write>(
     executor: &mut InstructionExecutor<M>,
     environment: &mut OutputRecorder<'a>,
     link: &mut Link<R, W>,
-) -> Result<SessionEnd, LinkError> {
+) -> Result<SessionEnd, LinkError>
+    ensures served { IfOk result (Serves R.remaining W.contents
+        (debugged state.old (state_in M.bytes M.writable executor.old)) link.old
+        (debugged state.new (state_in M.bytes M.writable executor.new)) link.new) }
+{
     send_stop(state, link)?;
     for _ in 0..u64::MAX {
         let Some(payload) = next_payload(link)? else {
