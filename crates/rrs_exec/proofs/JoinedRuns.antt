@@ -32,6 +32,11 @@ piece_made before size steps None s u t is runs run =
     RunsOk-join before steps (before + size) s u t (omega (arith, run.0)) runs run.1
 piece_made before size steps (Some e) s u t is runs run = absurd (cc)
 
+pub piece_steps : (size steps : ℕ) (e : Option InstructionException) (u t : State) → e ≡ None → RunUntil size u steps e t
+    → steps ≡ size
+piece_steps size steps None u t is run = run.0
+piece_steps size steps (Some e) u t is run = absurd (cc)
+
 -- a run that raised an exception below a limit did so below a higher one
 pub run_farther : (limit more steps : ℕ) (e : InstructionException) (s t : State) → limit ≤ more
     → RunUntil limit s steps (Some e) t → RunUntil more s steps (Some e) t

@@ -9,3 +9,4 @@ pub mod ZeroBytes
 pub mod ProcessBytes
 pub mod ProcessAccesses
 pub mod Stretches
+pub mod Telling

@@ -11,3 +11,4 @@ pub mod Layouts
 pub mod Images
 pub mod Processes
 pub mod Watching
+pub mod Progress

@@ -9,7 +9,8 @@
 //!
 //! [load_process] makes a process of the bytes of an ELF file: its image, and its memory. [execute_process] runs it and serves its system calls. What that is, is written in
 //! `specs/Processes.antt`. [watch_process] shows each step of such a run to a [Watcher],
-//! as `specs/Watching.antt` says. Both tell a [Progress] of the steps, of which no contract speaks.
+//! as `specs/Watching.antt` says. Both tell a [Progress] of the steps, of which their contracts say
+//! nothing, and that of [InPieces] all.
 
 #![tactic(auto)]
 

@@ -4,7 +4,7 @@
 //! the program writes to a terminal or reads from one. So the screen is then what it would be
 //! without the line.
 
-ghost use Rattle.std.specs.Prelude.{◌≡◌};
+ghost use Rattle.std.specs.Prelude.{◌≡◌, Some};
 
 use rrs_exec::Progress;
 use std::cell::{Cell, RefCell};
@@ -141,7 +141,9 @@ impl<'a, C: Clock, T: Write> ProgressLine<'a, C, T> {
     }
 
     /// Looks at the clock, and shows a line where a second has passed since the latest one.
-    fn look(&mut self) {
+    fn look(&mut self)
+        ensures { self.new.steps ≡ self.old.steps }
+    {
         let Ok(time) = self.clock.monotonic() else {
             return;
         };
@@ -164,6 +166,8 @@ impl<'a, C: Clock, T: Write> ProgressLine<'a, C, T> {
 }
 
 impl<C: Clock, T: Write> Progress for ProgressLine<'_, C, T> {
+    ghost told = { λ line. Some line.steps };
+
     fn add(&mut self, steps: u64) {
         self.steps = self.steps.saturating_add(steps);
         self.unseen = self.unseen.saturating_add(steps);
