@@ -34,6 +34,12 @@ pub static SUBCOMMANDS: [Subcommand; 9] = [
 /// The program itself, where it is asked for help or for no subcommand.
 pub static ITSELF: Subcommand = HELP;
 
+/// `rrs gdb --board`, which has options of its own.
+pub static DEBUG_BOARD: Subcommand = Subcommand {
+    task: Task::DebugBoard,
+    ..DEBUG
+};
+
 /// `rrs run`.
 const RUN: Subcommand = Subcommand {
     word: "run",
