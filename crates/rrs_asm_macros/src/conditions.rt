@@ -5,7 +5,8 @@ ghost use Rattle.std.specs.Bool.{OnTrue, OnFalse};
 ghost use Rattle.rrs_asm_macros.specs.Conditions.{Begins, GoesOnWith, before_last, is_as, is_blank, is_else, is_end, next_part, unread};
 ghost use Rattle.rrs_asm_macros.specs.Expanding.{last_of};
 ghost use Rattle.rrs_asm_macros.specs.Operands.{Halts, is_slip};
-ghost use Rattle.rrs_asm_lines.specs.Lines.{behind_blanks};
+ghost use Rattle.rrs_asm_macros.specs.Tables.{symbol_named};
+ghost use Rattle.rrs_asm_lines.specs.Lines.{behind_blanks, word};
 
 use crate::arguments::{take_all, take_string};
 use crate::cursor::Cursor;
@@ -30,6 +31,12 @@ pub fn begin<A: Allocator + Copy>(
         (reader.new.conditions.items ≡ reader.old.conditions.items ++ next_part
         (unread place false)
         (is_as (length (behind_blanks cursor.old.rest.now) == 0) wanted) false ∷ []) }
+    ensures defined { (wanted : Bool) → test ≡ Test.Defined wanted
+        → OnTrue (is_none cursor.new.mistake)
+        (reader.new.conditions.items ≡ reader.old.conditions.items ++ next_part
+        (unread place false)
+        (is_as (is_some (symbol_named (word cursor.old.rest.now) tables.now.symbols)) wanted)
+        false ∷ []) }
 {
     let holds = holds(tables, test, cursor);
     go_on(reader, Condition::new(place, false), holds, false, cursor);
@@ -135,6 +142,8 @@ fn holds<A: Allocator + Copy>(tables: &Tables<A>, test: Test, cursor: &mut Curso
     ensures blank_kept { (wanted : Bool) → test ≡ Test.Blank wanted → cursor.new ≡ cursor.old }
     ensures over { OnTrue (is_none cursor.new.mistake) (OnFalse (is_blank test)
         (behind_blanks cursor.new.rest.now ≡ [])) }
+    ensures defined { (wanted : Bool) → test ≡ Test.Defined wanted → result
+        ≡ is_as (is_some (symbol_named (word cursor.old.rest.now) tables.now.symbols)) wanted }
 {
     match test {
         Test::Compared(comparison) => compares(tables, comparison, cursor),
