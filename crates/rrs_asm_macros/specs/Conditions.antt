@@ -1,7 +1,7 @@
 -- Conditions (GNU assembler manual, ".if absolute expression"): what stands after `.if`, up to its
 -- `.elseif`, `.else` or `.endif`, is read if the condition holds, and what stands after the others
 -- if none before did. The value of an expression is a signed number of 64 bits.
-use Rattle.std.specs.Prelude.{◌≡◌, ℕ, Bool, true, false, not, ◌&&◌, ◌||◌, ◌==◌, int_lt, List, [], ◌∷◌, ◌++◌, length, take, ◌-◌, slice_get}
+use Rattle.std.specs.Prelude.{◌≡◌, ℕ, Bool, true, false, not, ◌&&◌, ◌||◌, ◌==◌, int_lt, List, [], ◌∷◌, ◌++◌, length, take, ◌-◌, slice_get, Option, Some}
 use Rattle.std.specs.Int.{cast_signed, w64}
 use Rattle.std.specs.Option.{option_map_or}
 use Rattle.rrs_asm_macros.specs.declared.errors.MacroError.{MacroError}
@@ -82,3 +82,15 @@ pub record GoesOnWith (around : List Condition) (last : Condition) (is_behind_el
       → new ≡ around ++ next_part last false false ∷ []
   pub asked : is_behind_else ≡ false → last.is_done ≡ false
       → (holds : Bool) × (new ≡ around ++ next_part last holds false ∷ [])
+
+-- A statement that is skipped, by the directive that it begins with, if it does: a condition is
+-- skipped whole, `.elseif`, `.else` and `.endif` are of the innermost one, and another says nothing.
+abbrev pub Skips : Option Directive → List Condition → List Condition → Type 0
+Skips (Some (Directive.If test)) old new =
+    (place : MacroError) × (new ≡ old ++ unread place true ∷ [])
+Skips (Some Directive.EndIf) old new = new ≡ before_last old
+Skips (Some Directive.Else) old new = (last : Condition)
+    → slice_get old (length old - 1) ≡ Some last → GoesOnWith (before_last old) last true new
+Skips (Some Directive.ElseIf) old new = (last : Condition)
+    → slice_get old (length old - 1) ≡ Some last → GoesOnWith (before_last old) last false new
+Skips _ old new = new ≡ old

@@ -3,10 +3,10 @@
 ghost use Rattle.std.specs.Prelude.{◌≡◌, ◌+◌, ◌<◌, ◌≤◌, [], true, None, IfSome, IfNone, MatchOption, length, is_none, is_some, ◌^◌};
 ghost use Rattle.std.specs.Bool.{OnTrue, OnFalse};
 ghost use Rattle.rrs_asm_lines.specs.Lines.{behind_blanks, lines, word};
-ghost use Rattle.rrs_asm_macros.specs.Conditions.{is_skipped};
+ghost use Rattle.rrs_asm_macros.specs.Conditions.{Skips, is_skipped};
 ghost use Rattle.rrs_asm_macros.specs.Expanding.{line_of};
 ghost use Rattle.rrs_asm_macros.specs.Mistakes.{mistake_at};
-ghost use Rattle.rrs_asm_macros.specs.Directives.{is_counted, is_end_alone, is_exit, is_repetition};
+ghost use Rattle.rrs_asm_macros.specs.Directives.{directive_named, is_counted, is_end_alone, is_exit, is_repetition};
 ghost use Rattle.rrs_asm_macros.specs.Operands.{Halts, capped};
 ghost use Rattle.rrs_asm_macros.specs.Reading.{IsRepeated};
 ghost use Rattle.rrs_asm_macros.specs.Tables.{macro_named};
@@ -146,7 +146,10 @@ fn skip<A: Allocator + Copy>(
     site: &Site,
     code: &[u8],
     reader: &mut Reader<A>,
-) {
+)
+    ensures { OnTrue (is_none tables.new.mistake) (Skips (directive_named (word code.now))
+        reader.old.conditions.items reader.new.conditions.items) }
+{
     let (word, operands) = split_word(code);
     let start = Cursor::new(code, site.behind).slip(MacroErrorKind::UnendedCondition);
     let cursor = &mut Cursor::new(operands, site.behind);

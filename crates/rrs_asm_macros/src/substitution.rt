@@ -1,6 +1,6 @@
 //! A macro's body with arguments in the places of its parameters.
 
-ghost use Rattle.std.specs.Prelude.{◌≡◌, ◌⊎◌, ◌+◌, ◌<◌, [], ◌∷◌, Some, IfSome, IsSome, drop, length, take};
+ghost use Rattle.std.specs.Prelude.{◌≡◌, ◌≢◌, ◌⊎◌, ◌+◌, ◌<◌, ℕ, List, [], ◌∷◌, Some, IfSome, IsSome, drop, length, take};
 ghost use Rattle.std.specs.Bool.{OnTrue, OnFalse};
 ghost use Rattle.rrs_asm_lines.specs.Lines.{begins_with};
 ghost use Rattle.rrs_asm_macros.specs.Arguments.{has_name};
@@ -60,6 +60,14 @@ fn piece<'a, A: Allocator + Copy>(
     ensures literal { OnTrue (has_parameters place) (take 2 text.now ≡ 92 ∷ 40 ∷ []
         → (result.0.now ≡ in_parentheses (drop 2 text.now))
         × (result.1 ≡ capped (size_with (drop 2 text.now)))) }
+    ensures named { OnTrue (has_parameters place) ((others : List ℕ) → text.now ≡ 92 ∷ others
+        → take 1 others ≢ 40 ∷ [] → take 1 others ≢ 64 ∷ []
+        → OnTrue (has_name parameters.now (name_after others))
+        (length values.now ≡ length parameters.now
+        → IsValue parameters.now values.now (name_after others) result.0.now)) }
+    ensures taken { OnTrue (has_parameters place) ((others : List ℕ) → text.now ≡ 92 ∷ others
+        → take 1 others ≢ 40 ∷ [] → take 1 others ≢ 64 ∷ []
+        → result.1 ≡ capped (length (name_after others) + 1)) }
 {
     match text {
         [b'\\', others @ ..] if place.has_parameters() => match others {
