@@ -186,12 +186,12 @@ const RRS_USAGE: &str = "usage: rrs run|exec|trace|cover|as|dis|elf|board|gdb|he
 const QUIET_USAGE: &str = "usage: rrs run [--quiet] FILE LIMIT\n";
 
 /// How `rrs trace` is called.
-const TRACE_USAGE: &str = "usage: rrs trace [--limit STEPS] [--memory BYTES] \
-    [--from ADDRESS|SYMBOL] [--output FILE]\n    PROGRAM [ARGUMENT] ..\n";
+const TRACE_USAGE: &str = "usage: rrs trace [--limit STEPS] [--memory BYTES] [--clock fixed] \
+    [--from ADDRESS|SYMBOL]\n    [--output FILE] PROGRAM [ARGUMENT] ..\n";
 
 /// How `rrs cover` is called.
-const COVER_USAGE: &str = "usage: rrs cover [--limit STEPS] [--memory BYTES] [--annotate] \
-    [--callgrind FILE]\n    [--output FILE] PROGRAM [ARGUMENT] ..\n";
+const COVER_USAGE: &str = "usage: rrs cover [--limit STEPS] [--memory BYTES] [--clock fixed] \
+    [--annotate]\n    [--callgrind FILE] [--output FILE] PROGRAM [ARGUMENT] ..\n";
 
 /// How `rrs as` is called.
 const ASSEMBLE_USAGE: &str = "usage: rrs as [--gnu | --list] [-o OUTPUT] [--rars] \
