@@ -570,10 +570,31 @@ impl<'a, 's> Line<'a, 's> {
         } else {
             self.immediate()
         };
+        (imm, self.enclosed_register())
+    }
+
+    /// Takes a register in parentheses: `(x1)`. Before it may stand a value that is 0, of numbers
+    /// and of constants that are known here.
+    pub fn address_alone(&mut self) -> usize {
+        if !self.is_register_enclosed() {
+            self.skip_blanks();
+            let error = self.error(SourceErrorKind::Range);
+            let (word, _) = split_word(self.rest);
+            self.want(register_number(word).is_none(), SourceErrorKind::Value);
+            let value = self.known_value();
+            if value != 0 || self.terms.has_address {
+                self.fail(error);
+            }
+        }
+        self.enclosed_register()
+    }
+
+    /// Takes a register in parentheses.
+    fn enclosed_register(&mut self) -> usize {
         self.expect(b'(', SourceErrorKind::Parenthesis);
         let register = self.register();
         self.expect(b')', SourceErrorKind::Parenthesis);
-        (imm, register)
+        register
     }
 
     /// Whether a register in parentheses is next.

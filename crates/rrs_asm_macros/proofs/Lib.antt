@@ -4,3 +4,5 @@ pub mod Above
 pub mod Becoming
 mod Finding
 mod Labels
+mod Names
+mod Told

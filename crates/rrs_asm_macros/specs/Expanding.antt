@@ -1,6 +1,6 @@
 -- A source while it is expanded: what is being read, the innermost text last, and the mistakes so
--- far. GNU `as` tells a mistake and goes on; here no more than 20 are told, and none after one that
--- says that too much is made.
+-- far. GNU `as` tells a mistake at the line that it is met on, and goes on; here no more than 20 are
+-- told, the first of them, and none after one that says that too much is made.
 use Rattle.std.specs.Prelude.{◌≡◌, ◌⊎◌, ℕ, ◌+◌, ◌<◌, ◌≤◌, Bool, true, false, List, [], ◌∷◌, ◌++◌, ◌-◌, length, slice_get, Option}
 use Rattle.rrs_asm_macros.specs.declared.errors.MacroError.{MacroError}
 use Rattle.rrs_asm_macros.specs.declared.errors.MacroFault.{MacroFault}
@@ -52,6 +52,11 @@ abbrev pub AreTold : {A : Type 0} → MacroFault A → Type 0
 AreTold (MacroFault.Mistakes mistakes) =
     (1 ≤ length mistakes.items) × (length mistakes.items ≤ 20)
 AreTold MacroFault.OutOfMemory = Unit {0}
+
+-- these mistakes are told, or memory is missing
+abbrev pub AreThese : {A : Type 0} → List MacroError → MacroFault A → Type 0
+AreThese told (MacroFault.Mistakes mistakes) = mistakes.items ≡ told
+AreThese told MacroFault.OutOfMemory = Unit {0}
 
 -- At most 20 mistakes are told, and fewer where more is read.
 pub record IsWithin {A : Type 0} (expansion : Expansion A) : Type 0 where

@@ -14,3 +14,4 @@ pub mod Arguments
 pub mod Scanning
 pub mod Tables
 pub mod Substitution
+pub mod Symbols

@@ -4,6 +4,10 @@ use Rattle.rrs_asm_lines.specs.Lines.{is_line_feed, lines}
 use Rattle.rrs_asm_macros.specs.Directives.{has_directives}
 use Rattle.rrs_asm_macros.specs.declared.output.Expanded.{Expanded}
 
+-- the first line of a text
+abbrev pub first_line : List ℕ → List ℕ
+first_line text = get_or (lines text) 0 []
+
 -- A number of a line, where there are so many: they are counted from 1.
 abbrev pub IsLine : ℕ → ℕ → Type 0
 IsLine total number = (1 ≤ number) × (number ≤ total)

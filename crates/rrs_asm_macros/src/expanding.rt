@@ -1,12 +1,12 @@
 //! Expanding a source.
 
-ghost use Rattle.std.specs.Prelude.{◌≡◌, ℕ, ◌<◌, ◌≤◌, false, true, [], ◌∷◌, ◌++◌, ◌⊎◌, Some, None, length, IfOk, OnOk, IfErr, IfSome, IfNone};
+ghost use Rattle.std.specs.Prelude.{◌≡◌, ℕ, ◌<◌, ◌≤◌, false, true, [], ◌∷◌, ◌++◌, ◌⊎◌, Some, None, length, IfOk, OnOk, IfErr, IfSome, IfNone, MatchOption, MatchResult};
 ghost use Rattle.std.specs.Bool.{OnTrue, OnFalse};
 ghost use Rattle.std.specs.List.{list_any};
 ghost use Rattle.rrs_asm_macros.specs.Directives.{begins_one, has_directives};
 ghost use Rattle.rrs_asm_macros.specs.Expansion.{IsExpansion};
 ghost use Rattle.rrs_asm_lines.specs.Lines.{lines};
-ghost use Rattle.rrs_asm_macros.specs.Expanding.{AreTold, Enters, IsShort, IsWithin, Tells, TellsOne, last_of, line_of};
+ghost use Rattle.rrs_asm_macros.specs.Expanding.{AreThese, AreTold, Enters, IsShort, IsWithin, Tells, TellsOne, last_of, line_of};
 ghost use Rattle.rrs_asm_macros.specs.Mistakes.{mistake_at};
 ghost use Rattle.rrs_asm_macros.specs.Lines.{IsLine, IsMade, IsMapped, IsSame, KeepsAbove};
 
@@ -50,6 +50,7 @@ impl<A: Allocator + Copy> Expansion<A> {
     /// Nothing of a source is read.
     fn new(alloc: A, source: &[u8]) -> Result<Self, AllocError>
         ensures within { IfOk result (λ expansion. IsWithin expansion) }
+        ensures none { IfOk result (λ expansion. expansion.mistakes.items ≡ []) }
     {
         let text = Vec::from_slice(alloc, source)?;
         let mut frame = Frame::new(alloc, text, 1, height(source), 0);
@@ -87,20 +88,21 @@ impl<A: Allocator + Copy> Expansion<A> {
     }
 
     /// Why the source is not expanded, if it is not.
-    fn fault(self, alloc: A) -> Option<MacroFault<A>>
-        ensures short { self.is_short ≡ true → result ≡ Some MacroFault.OutOfMemory }
-        ensures told { self.is_short ≡ false → (self.mistakes.items ≡ [] → ⊥)
-            → result ≡ Some (MacroFault.Mistakes self.mistakes) }
-        ensures whole { self.is_short ≡ false → self.mistakes.items ≡ []
-            → self.frames.items ≡ [] → result ≡ None }
-        ensures left { self.is_short ≡ false → self.mistakes.items ≡ []
-            → (self.frames.items ≡ [] → ⊥) → result ≡ None → ⊥ }
-        ensures mistakes { IsWithin self → IfSome result AreTold }
+    #[tactic(auto, using(crate::proofs::Told::told_within))]
+    fn fault(&self, alloc: A) -> Option<MacroFault<A>>
+        ensures short { self.now.is_short ≡ true → result ≡ Some MacroFault.OutOfMemory }
+        ensures told { self.now.is_short ≡ false → (self.now.mistakes.items ≡ [] → ⊥)
+            → MatchOption result ⊥ (AreThese self.now.mistakes.items) }
+        ensures whole { self.now.is_short ≡ false → self.now.mistakes.items ≡ []
+            → self.now.frames.items ≡ [] → result ≡ None }
+        ensures none { IfNone result ((self.now.is_short ≡ false)
+            × (self.now.mistakes.items ≡ []) × (self.now.frames.items ≡ [])) }
+        ensures mistakes { IsWithin self.now → IfSome result AreTold }
     {
         if self.is_short {
             Some(MacroFault::OutOfMemory)
         } else if !self.mistakes.is_empty() {
-            Some(MacroFault::Mistakes(self.mistakes))
+            Some(told(alloc, &self.mistakes))
         } else if !self.frames.is_empty() {
             Some(fault(alloc, MacroErrorKind::Much))
         } else {
@@ -156,9 +158,34 @@ impl<A: Allocator + Copy> Expansion<A> {
     {
         let left = frame.text.len();
         if made > MOST_MADE {
-            let kind = MacroErrorKind::Much;
-            self.tell(origin.mistake(left, Slip { kind, left }));
+            self.tell_at(origin, left, MacroErrorKind::Much);
         }
+        self.go_on(frame, turn, origin);
+    }
+
+    /// Tells a mistake in a line of a text of so many bytes, at the head of the line.
+    fn tell_at(&mut self, origin: Origin, length: usize, kind: MacroErrorKind)
+        ensures told { self.old.is_over ≡ false → length < usize.MAX → TellsOne self.old self.new
+            (mistake_at origin.number origin.line_start length
+            (record { kind = kind; left = length })) }
+        ensures over { self.old.is_over ≡ true → self.new ≡ self.old }
+        ensures within { IsWithin self.old → IsWithin self.new }
+    {
+        self.tell(origin.mistake(length, Slip { kind, left: length }));
+    }
+
+    /// Goes on after a line or a statement of a text, which began at a place.
+    fn go_on(&mut self, frame: Frame<A>, turn: Turn<A>, origin: Origin)
+        ensures stays { turn ≡ Turn.Stay
+            → Enters self.old self.new frame ⊎ IsShort self.old self.new }
+        ensures leaves { turn ≡ Turn.Leave → self.new ≡ self.old }
+        ensures stumbles { (slip : Slip) → turn ≡ Turn.Stumble slip
+            → self.old.is_over ≡ false → length frame.text.items < usize.MAX
+            → TellsOne self.old self.new
+            (mistake_at origin.number origin.line_start (length frame.text.items) slip) }
+        ensures within { IsWithin self.old → IsWithin self.new }
+    {
+        let left = frame.text.len();
         match turn {
             Turn::Leave => (),
             Turn::Over => self.finish(frame),
@@ -172,8 +199,7 @@ impl<A: Allocator + Copy> Expansion<A> {
                 if self.frames.len() < MOST_DEPTH {
                     self.read(inner);
                 } else {
-                    let kind = MacroErrorKind::Deep;
-                    self.tell(origin.mistake(left, Slip { kind, left }));
+                    self.tell_at(origin, left, MacroErrorKind::Deep);
                 }
             }
         }
@@ -219,9 +245,30 @@ fn expanded<A: Allocator + Copy>(alloc: A, source: &[u8]) -> Result<Expanded<A>,
     ensures becomes { IfOk result (λ expanded. IsExpansion source.now expanded.text.items) }
     ensures mistakes { IfErr result AreTold }
 {
+    let mut expansion = Expansion::new(alloc, source)?;
+    read_all(alloc, source, &mut expansion)
+}
+
+/// Reads a source to its end, and what it becomes. There is no result with a mistake.
+fn read_all<A: Allocator + Copy>(
+    alloc: A,
+    source: &[u8],
+    expansion: &mut Expansion<A>,
+) -> Result<Expanded<A>, MacroFault<A>>
+    ensures wrong { expansion.new.is_short ≡ false → (expansion.new.mistakes.items ≡ [] → ⊥)
+        → MatchResult result (λ _. ⊥) (AreThese expansion.new.mistakes.items) }
+    ensures right { IfOk result (λ _. expansion.new.mistakes.items ≡ []) }
+    ensures read { IfOk result (λ _. expansion.new.frames.items ≡ []) }
+    ensures long { IfOk result (λ _. expansion.new.is_short ≡ false) }
+    ensures gone { IfOk result (λ expanded.
+        list_any begins_one (lines expanded.text.items) ≡ false) }
+    ensures mapped { IfOk result (IsMapped source.now) }
+    ensures above { IfOk result (KeepsAbove source.now) }
+    ensures becomes { IfOk result (λ expanded. IsExpansion source.now expanded.text.items) }
+    ensures mistakes { IsWithin expansion.old → IfErr result AreTold }
+{
     let total = height(source);
     let mut out = Expanded::new(alloc);
-    let mut expansion = Expansion::new(alloc, source)?;
     let mut tables = Tables::new(alloc);
     for _ in 0..MOST_STEPS {
         if expansion.is_over {
@@ -230,7 +277,7 @@ fn expanded<A: Allocator + Copy>(alloc: A, source: &[u8]) -> Result<Expanded<A>,
         let Some(frame) = expansion.frames.pop() else {
             break;
         };
-        advance(&mut tables, &mut expansion, frame, &mut out, total)?;
+        advance(&mut tables, expansion, frame, &mut out, total)?;
     }
     if let Some(fault) = expansion.fault(alloc) {
         return Err(fault);
@@ -309,15 +356,24 @@ fn settled<A: Allocator + Copy>(
 /// A mistake that has no place of its own. `MacroErrorKind::LeftOver` says that a directive is left
 /// in a result, or that it is another than the source becomes. No source is known of which that is
 /// so.
+#[tactic(auto, using(crate::proofs::Told::told_within))]
 fn fault<A: Allocator + Copy>(alloc: A, kind: MacroErrorKind) -> MacroFault<A>
-    ensures { AreTold result }
+    ensures first { AreThese (record { line = 1; column = 1; kind = kind } ∷ []) result }
+    ensures told { AreTold result }
 {
     let mistake = MacroError {
         line: 1,
         column: 1,
         kind,
     };
-    match Vec::from_slice(alloc, &[mistake]) {
+    told(alloc, &[mistake])
+}
+
+/// These mistakes.
+fn told<A: Allocator + Copy>(alloc: A, mistakes: &[MacroError]) -> MacroFault<A>
+    ensures { AreThese mistakes.now result }
+{
+    match Vec::from_slice(alloc, mistakes) {
         Ok(mistakes) => MacroFault::Mistakes(mistakes),
         Err(_) => MacroFault::OutOfMemory,
     }

@@ -1,14 +1,16 @@
 //! Performing a statement: what is put into the result, and what is read next.
 
-ghost use Rattle.std.specs.Prelude.{◌≡◌, ◌+◌, ◌<◌, ◌≤◌, [], true, None, IfSome, IfNone, MatchOption, length, is_none, is_some, ◌^◌};
+ghost use Rattle.std.specs.Prelude.{◌≡◌, ◌+◌, ◌-◌, ◌<◌, ◌≤◌, [], true, None, Some, IfSome, IfNone, MatchOption, length, is_none, is_some, ◌^◌};
 ghost use Rattle.std.specs.Bool.{OnTrue, OnFalse};
 ghost use Rattle.rrs_asm_lines.specs.Lines.{behind_blanks, lines, word};
 ghost use Rattle.rrs_asm_macros.specs.Conditions.{Skips, is_skipped};
 ghost use Rattle.rrs_asm_macros.specs.Expanding.{line_of};
+ghost use Rattle.rrs_asm_macros.specs.Lines.{first_line};
 ghost use Rattle.rrs_asm_macros.specs.Mistakes.{mistake_at};
 ghost use Rattle.rrs_asm_macros.specs.Directives.{directive_named, is_counted, is_end_alone, is_exit, is_repetition};
 ghost use Rattle.rrs_asm_macros.specs.Operands.{Halts, capped};
 ghost use Rattle.rrs_asm_macros.specs.Reading.{IsRepeated};
+ghost use Rattle.rrs_asm_macros.specs.Symbols.{Defines, symbols_of_line};
 ghost use Rattle.rrs_asm_macros.specs.Tables.{macro_named};
 
 use crate::arguments::copied;
@@ -87,24 +89,46 @@ pub fn read_step<A: Allocator + Copy>(
         };
     };
     if reader.is_at_line() && !reader.is_skipping() {
-        let (line, others) = first_line(rest);
+        let (line, _) = first_line(rest);
         if tables.is_plain(line) {
-            tables.spend(line.len().saturating_add(1), rest.len());
-            tables.note_line(line);
-            let start = text.len().saturating_sub(rest.len());
-            let span = Span {
-                start,
-                end: start.saturating_add(line.len()),
-                number: reader.origin().number,
-            };
-            reader.go_on(text, others, 1);
-            return Step {
-                line: Some(span),
-                turn: Turn::Stay,
-            };
+            return read_line(tables, text, rest, reader);
         }
     }
     read_statement(tables, text, rest, reader)
+}
+
+/// Reads a line of a text of which this is left. Its statements are no directives of macros and no
+/// calls: it is put as it stands, and what it defines is known from there on.
+fn read_line<A: Allocator + Copy>(
+    tables: &mut Tables<A>,
+    text: &[u8],
+    rest: &[u8],
+    reader: &mut Reader<A>,
+) -> Step<A>
+    ensures line { result.line ≡ Some (record {
+      start = length text.now - length rest.now;
+      end = capped (length text.now - length rest.now + length (first_line rest.now));
+      number = line_of reader.old;
+    }) }
+    ensures stays { result.turn ≡ Turn.Stay }
+    ensures defines { Defines tables.old.symbols tables.new.symbols
+        (symbols_of_line (first_line rest.now)) }
+    ensures macros_kept { tables.new.macros ≡ tables.old.macros }
+{
+    let (line, others) = first_line(rest);
+    tables.spend(line.len().saturating_add(1), rest.len());
+    tables.note_line(line);
+    let start = text.len().saturating_sub(rest.len());
+    let span = Span {
+        start,
+        end: start.saturating_add(line.len()),
+        number: reader.origin().number,
+    };
+    reader.go_on(text, others, 1);
+    Step {
+        line: Some(span),
+        turn: Turn::Stay,
+    }
 }
 
 /// Reads a statement of a text of which this is left.

@@ -1,22 +1,31 @@
 //! The symbols that a source has defined so far.
 
-ghost use Rattle.std.specs.Prelude.{◌≡◌, ℕ, List, false, None, Some, is_some};
+ghost use Rattle.std.specs.Prelude.{◌≡◌, ℕ, List, ◌∷◌, [], false, None, Some, is_some};
 ghost use Rattle.std.specs.Bool.{OnFalse};
 ghost use Rattle.std.specs.Option.{option_and_then};
+ghost use Rattle.rrs_asm_macros.specs.Symbols.{Defines, constant_of, labels_of, named, named_before, sets_constant, sets_space, symbols_of};
 ghost use Rattle.rrs_asm_macros.specs.Tables.{symbol_named};
 
 use crate::cursor::Cursor;
-use crate::scanning::first_label;
+use crate::scanning::{behind_labels, first_label};
 use crate::values::value;
 use rrs_asm_lines::split_word;
 use std::alloc::Allocator;
 use std::collections::BTreeMap;
 
-/// The directives that define a constant.
-const CONSTANTS: [&[u8]; 3] = [b".equ", b".set", b".equiv"];
+/// Whether a word is a directive that defines a constant.
+fn sets_constant(word: &[u8]) -> bool
+    ensures { result ≡ sets_constant word.now }
+{
+    word == b".equ".as_slice() || word == b".set".as_slice() || word == b".equiv".as_slice()
+}
 
-/// The directives that define a symbol of bytes that are zero.
-const SPACES: [&[u8]; 2] = [b".comm", b".lcomm"];
+/// Whether a word is a directive that defines a symbol of bytes that are zero.
+fn sets_space(word: &[u8]) -> bool
+    ensures { result ≡ sets_space word.now }
+{
+    word == b".comm".as_slice() || word == b".lcomm".as_slice()
+}
 
 /// The symbols that are defined so far.
 #[derive(Drop)]
@@ -59,18 +68,31 @@ impl<A: Allocator + Copy> Symbols<A> {
     fn define(&mut self, name: &[u8], value: Option<u64>)
         ensures defined { OnFalse self.new.is_short
             (symbol_named name.now self.new ≡ Some value) }
+        ensures others { Defines self.old self.new (name.now ∷ []) }
     {
-        let is_kept = match Vec::from_slice(self.alloc, name) {
-            Ok(key) => self.values.insert(key, value).is_ok(),
-            Err(_) => false,
-        };
-        self.is_short = self.is_short || !is_kept;
+        match Vec::from_slice(self.alloc, name) {
+            Ok(key) => match self.values.insert(key, value) {
+                Ok(_) => (),
+                Err(_) => self.is_short = true,
+            },
+            Err(_) => self.is_short = true,
+        }
     }
 
     /// Defines what a statement that is no directive of macros defines: its labels, and a constant.
-    pub fn note(&mut self, code: &[u8]) {
+    pub fn note(&mut self, code: &[u8])
+        ensures { Defines self.old self.new (symbols_of code.now) }
+    {
+        self.note_labels(code);
+        self.note_constant(behind_labels(code));
+    }
+
+    /// Defines the labels of a statement.
+    fn note_labels(&mut self, code: &[u8])
+        ensures { Defines self.old self.new (labels_of code.now) }
+    {
         let mut rest = code;
-        for _ in 0..code.len() {
+        for _passed in 0..code.len() {
             match first_label(rest) {
                 Some((name, others)) => {
                     self.define(name, None);
@@ -79,32 +101,44 @@ impl<A: Allocator + Copy> Symbols<A> {
                 None => break,
             }
         }
-        self.note_constant(rest);
     }
 
     /// Defines the constant that a statement with no labels defines, if it does.
-    fn note_constant(&mut self, statement: &[u8]) {
+    fn note_constant(&mut self, statement: &[u8])
+        ensures { Defines self.old self.new (constant_of statement.now) }
+    {
         let (word, rest) = split_word(statement);
         let (operand, others) = split_word(rest);
-        if SPACES.contains(&word) {
-            return self.define(operand, None);
+        if sets_space(word) {
+            self.define_named(operand, None);
+        } else if sets_constant(word) {
+            self.note_value(operand, others, b',');
+        } else {
+            self.note_value(word, rest, b'=');
         }
-        let is_directive = CONSTANTS.contains(&word);
-        let (name, operands) = if is_directive {
-            (operand, others)
-        } else {
-            (word, rest)
-        };
+    }
+
+    /// Defines a symbol, if the name is one.
+    fn define_named(&mut self, name: &[u8], value: Option<u64>)
+        ensures { Defines self.old self.new (named name.now) }
+    {
+        if !name.is_empty() {
+            self.define(name, value);
+        }
+    }
+
+    /// Defines a constant where this mark stands between its name and its value.
+    fn note_value(&mut self, name: &[u8], operands: &[u8], mark: u8)
+        ensures { Defines self.old self.new (named_before mark name.now operands.now) }
+    {
         let mut cursor = Cursor::new(operands, 0);
-        let is_given = if is_directive {
-            cursor.take_if(b",")
-        } else {
-            cursor.take_if(b"==") || cursor.take_if(b"=")
-        };
-        if is_given && !name.is_empty() {
+        if cursor.take_if(&[mark]) {
+            if mark == b'=' {
+                let _ = cursor.take_next(b'=');
+            }
             let value = value(&mut cursor, self);
             let is_known = cursor.is_over() && cursor.mistake.is_none();
-            self.define(name, is_known.then_some(value));
+            self.define_named(name, is_known.then_some(value));
         }
     }
 }

@@ -2,6 +2,7 @@
 
 ghost use Rattle.std.specs.Prelude.{◌≡◌, ◌+◌, ◌*◌, true, false, nat_le, Some, None, IfSome, IfNone, MatchOption, is_none, is_some};
 ghost use Rattle.std.specs.Bool.{OnTrue, OnFalse};
+ghost use Rattle.rrs_asm_macros.specs.Symbols.{Defines, symbols_of, symbols_of_line};
 ghost use Rattle.rrs_asm_macros.specs.Tables.{Spends, macro_named};
 ghost use Rattle.rrs_asm_macros.specs.Reading.{IsAtHead};
 ghost use Rattle.rrs_asm_lines.specs.Lines.{word};
@@ -161,6 +162,7 @@ impl<A: Allocator + Copy> Tables<A> {
         ensures macros_kept { self.new.macros ≡ self.old.macros }
         ensures calls_kept { self.new.calls ≡ self.old.calls }
         ensures left_kept { self.new.left ≡ self.old.left }
+        ensures defines { Defines self.old.symbols self.new.symbols (symbols_of code.now) }
     {
         self.symbols.note(code);
         if self.symbols.is_short {
@@ -169,9 +171,14 @@ impl<A: Allocator + Copy> Tables<A> {
     }
 
     /// Defines what a line of such statements defines.
-    pub fn note_line(&mut self, line: &[u8]) {
+    pub fn note_line(&mut self, line: &[u8])
+        ensures defines { Defines self.old.symbols self.new.symbols (symbols_of_line line.now) }
+        ensures macros_kept { self.new.macros ≡ self.old.macros }
+        ensures calls_kept { self.new.calls ≡ self.old.calls }
+        ensures left_kept { self.new.left ≡ self.old.left }
+    {
         let mut rest = Some(line);
-        for _ in 0..=line.len() {
+        for _passed in 0..line.len() + 1 {
             let Some(left) = rest else {
                 break;
             };
