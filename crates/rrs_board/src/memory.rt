@@ -1,11 +1,12 @@
 //! The memory of the board: RAM, and the registers of the devices below it.
 
-ghost use Rattle.std.specs.Prelude.{◌≡◌};
+ghost use Rattle.std.specs.Prelude.{◌≡◌, ◌%◌, IfOk, replicate};
+ghost use Rattle.std.specs.Bool.{OnFalse};
 
 use crate::devices::Devices;
-use rrs_fast::CachedMemory;
-use rrs_memory::memories::VecMemory;
+use rrs_fast::{CachedMemory, ZeroWords};
 use rrs_memory::{MemAccessSize, Memory};
+use std::alloc::{AllocError, Global};
 use std::marker::Model;
 
 /// Where RAM begins.
@@ -15,27 +16,87 @@ pub const RAM_START: u32 = 0x8000_0000;
 /// at a time, so a loop of up to so many words runs at full speed.
 pub const DECODED_WORDS: usize = 4096;
 
-/// Words at the addresses of RAM. In contracts it is the memory of these words.
+/// Words at the addresses of RAM, which are 0 until they are written, and take no memory of the
+/// host until then. In contracts it is the memory of all these words.
 #[derive(Drop)]
 pub struct Ram {
     /// The words.
-    words: VecMemory,
+    words: ZeroWords,
 }
 
 impl Model for Ram {
     ghost use Rattle.rrs_memory.specs.declared.memories.VecMemory.{VecMemory};
+    ghost use Rattle.rrs_board.specs.Ram.{all_words};
 
     ghost Value = { VecMemory };
 
-    ghost view = { λ r. r.words };
+    ghost view = { λ r. all_words r.words };
 }
 
 impl Ram {
-    /// RAM of these words.
-    pub fn new(words: VecMemory) -> Ram
-        ensures { result ≡ words }
+    ghost use Rattle.rrs_memory.specs.Bytes.{width, little_endian, Writes};
+    ghost use Rattle.rrs_memory.specs.VecBytes.{vec_bytes, vec_writable, vec_layout, VecWrites};
+
+    /// So many words of RAM.
+    ///
+    /// # Errors
+    ///
+    /// Out of memory.
+    pub fn new(alloc: Global, words: usize) -> Result<Ram, AllocError>
+        ensures { IfOk result (λ ram. ram.mem.items ≡ replicate words 0) }
     {
-        Ram { words }
+        let words = ZeroWords::new(alloc, words)?;
+        Ok(Ram { words })
+    }
+
+    /// The `size` bytes at a place from where RAM begins.
+    #[inline(always)]
+    fn get(&mut self, place: u32, size: MemAccessSize) -> Option<u32>
+        requires { place % width size ≡ 0 }
+        ensures value { result ≡ little_endian (vec_bytes self.old) place (width size) }
+        ensures kept { self.new ≡ self.old }
+    {
+        if let Some(value) = self.words.get(place, size) {
+            return Some(value);
+        }
+        if ((place / 4) as usize) < self.words.room {
+            Some(0)
+        } else {
+            None
+        }
+    }
+
+    /// Writes to a place from where RAM begins.
+    #[inline(always)]
+    fn put(&mut self, place: u32, size: MemAccessSize, value: u32) -> bool
+        requires { place % width size ≡ 0 }
+        ensures laws { Writes vec_bytes vec_writable vec_layout
+            self.old self.new place (width size) value result }
+        ensures did { VecWrites self.old place size value self.new result }
+        ensures refused { OnFalse result (self.new ≡ self.old) }
+    {
+        if self.words.put(place, size, value) {
+            return true;
+        }
+        self.put_past(place, size, value)
+    }
+
+    /// Writes to a word that is not there yet.
+    #[cold]
+    #[inline(never)]
+    fn put_past(&mut self, place: u32, size: MemAccessSize, value: u32) -> bool
+        requires { place % width size ≡ 0 }
+        ensures laws { Writes vec_bytes vec_writable vec_layout
+            self.old self.new place (width size) value result }
+        ensures did { VecWrites self.old place size value self.new result }
+        ensures refused { OnFalse result (self.new ≡ self.old) }
+    {
+        let index = (place / 4) as usize;
+        if index >= self.words.room {
+            return false;
+        }
+        self.words.grow(index);
+        self.words.put(place, size, value)
     }
 }
 
@@ -58,15 +119,15 @@ impl Memory for Ram {
         if addr < RAM_START {
             return None;
         }
-        self.words.read_mem(addr - RAM_START, size)
+        self.get(addr - RAM_START, size)
     }
 
     #[inline(always)]
     fn write_mem(&mut self, addr: u32, size: MemAccessSize, store_data: u32) -> bool {
-        if addr < RAM_START || ((addr - RAM_START) / 4) as usize >= self.words.mem.len() {
+        if addr < RAM_START {
             return false;
         }
-        self.words.write_mem(addr - RAM_START, size, store_data)
+        self.put(addr - RAM_START, size, store_data)
     }
 
     /// They are, at each address, as those of a `VecMemory`.

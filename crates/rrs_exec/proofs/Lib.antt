@@ -5,7 +5,6 @@ pub mod StackWords
 pub mod Filling
 pub mod Bounds
 pub mod OneLayout
-pub mod ZeroBytes
 pub mod ProcessBytes
 pub mod ProcessAccesses
 pub mod Stretches

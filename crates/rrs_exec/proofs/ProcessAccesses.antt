@@ -5,11 +5,11 @@ use Rattle.std.proofs.lemmas.Bool.{OnTrue_from, OnFalse_from}
 use Rattle.std.proofs.lemmas.Bool.Decides.{nat_tests}
 use Rattle.rrs_memory.specs.declared.MemAccessSize.{MemAccessSize}
 use Rattle.rrs_memory.specs.Bytes.{width, little_endian, all_writable, store, Reads, Writes, IsLawful, EndsAtLastAddress}
-use Rattle.rrs_exec.specs.ZeroWords.{bytes_or_zero}
+use Rattle.rrs_fast.specs.ZeroWords.{bytes_or_zero}
 use Rattle.rrs_exec.specs.ProcessPlaces.{distance, distance_below}
 use Rattle.rrs_exec.specs.ProcessMemories.{lies_between, place_below, process_bytes, process_writable, process_layout, process_reads, ProcessWrites}
 use Rattle.rrs_exec.specs.declared.process_memory.ProcessMemory.{ProcessMemory}
-use Rattle.rrs_exec.proofs.ZeroBytes.{same_bytes}
+use Rattle.rrs_fast.proofs.ZeroBytes.{same_bytes}
 use Rattle.rrs_exec.proofs.ProcessBytes as Parts
 
 -- the bytes are lawful everywhere, and end where addresses do

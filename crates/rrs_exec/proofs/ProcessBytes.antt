@@ -1,27 +1,16 @@
 -- The bytes of a process's memory: which word an access reads, and what a store into one leaves.
-use Rattle.std.proofs.Common.{◌≡◌, ℕ, zero, suc, ◌+◌, ◌-◌, ◌*◌, ◌/◌, ◌%◌, ◌^◌, ◌<◌, ◌≤◌, Bool, true, false, List, length, slice_index_or, if◌then◌else◌, nat_lt, nat_le, Some, None, refl, sym, ap, ◌∙◌, arith}
-use Rattle.std.proofs.Math.Nat.{zero-div}
+use Rattle.std.proofs.Common.{◌≡◌, ℕ, ◌+◌, ◌-◌, ◌*◌, ◌/◌, ◌%◌, ◌^◌, ◌<◌, ◌≤◌, Bool, true, false, List, length, slice_index_or, if◌then◌else◌, nat_lt, nat_le, Some, None, refl, sym, ap, ◌∙◌, arith}
 use Rattle.std.proofs.Math.Path.{fun_ext}
-use Rattle.std.proofs.lemmas.List.{get_or_past}
 use Rattle.std.proofs.lemmas.Bool.Decides.{nat_tests}
 use Rattle.rrs_memory.specs.declared.MemAccessSize.{MemAccessSize}
-use Rattle.rrs_memory.specs.Bytes.{ByteMap, width, little_endian, all_writable, store, sum_if_both, at_place, IsLawful, EndsAtLastAddress}
+use Rattle.rrs_memory.specs.Bytes.{ByteMap, width, little_endian, all_writable, store, IsLawful, EndsAtLastAddress}
 use Rattle.rrs_memory.proofs.ByteLemmas.{little_endian-moved, little_endian-unmapped, all_writable-refused, store_inside, store_outside, store_by, write-allowed}
 use Rattle.rrs_memory.proofs.VecWords.{aligned_in_word}
 use Rattle.rrs_memory.proofs.Regions.{width_pos}
-use Rattle.rrs_exec.specs.ZeroWords.{bytes_or_zero}
+use Rattle.rrs_fast.specs.ZeroWords.{bytes_or_zero}
 use Rattle.rrs_exec.specs.ProcessPlaces.{distance, distance_below}
 use Rattle.rrs_exec.specs.ProcessMemories.{lies_between, place_below, bytes_of_parts}
-use Rattle.rrs_exec.proofs.ZeroBytes.{same_bytes}
-
--- zeros have the value 0
-zero_value : (f : ByteMap) (a n : ℕ) → ((i : ℕ) → i < n → f (a + i) ≡ Some 0) → little_endian f a n ≡ Some 0
-zero_value f a zero zeros = refl
-zero_value f a (suc n) zeros = rw (zero_value f a n (λ i less. zeros i (omega (arith, less))), zeros n (omega arith)) (ap Some (omega arith))
-
--- a byte past the words
-past : (words : List ℕ) (place : ℕ) → length words ≤ place / 4 → bytes_or_zero words place ≡ Some 0
-past words place beyond = rw (get_or_past words (place / 4) 0 beyond) (ap Some (ap (λ x. x % 256) (zero-div (256 ^ (place % 4)))))
+use Rattle.rrs_fast.proofs.ZeroBytes.{same_bytes, zero_value, past}
 
 -- an access has a byte, and ends where a word does or before
 pub some_width : (size : MemAccessSize) → 0 < width size

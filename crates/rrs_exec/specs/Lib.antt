@@ -2,7 +2,6 @@
 -- it is to run an executable as one. Definitions of rrs_linux that contracts here cite are passed
 -- on.
 pub use Rattle.rrs_linux.specs.SystemCalls
-pub mod ZeroWords
 pub mod ProcessPlaces
 pub mod ProcessMemories
 pub mod Protection

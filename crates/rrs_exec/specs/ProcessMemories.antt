@@ -5,7 +5,7 @@ use Rattle.std.specs.Prelude.{◌≡◌, ℕ, ◌-◌, ◌+◌, ◌*◌, ◌/◌
 use Rattle.std.specs.Bool.{OnTrue, OnFalse}
 use Rattle.rrs_memory.specs.declared.MemAccessSize.{MemAccessSize}
 use Rattle.rrs_memory.specs.Bytes.{ByteMap, width, store}
-use Rattle.rrs_exec.specs.ZeroWords.{bytes_or_zero}
+use Rattle.rrs_fast.specs.ZeroWords.{bytes_or_zero}
 use Rattle.rrs_exec.specs.declared.process_memory.ProcessMemory.{ProcessMemory}
 
 -- an address from the first on and before the end

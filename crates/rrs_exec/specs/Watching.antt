@@ -5,7 +5,7 @@ use Rattle.rrs_lib.specs.declared.instruction_executor.InstructionException.TheV
 use Rattle.rrs_lib.specs.Bytes.{ByteMap}
 use Rattle.rrs_lib.specs.Accesses.{Access, AccessesOf}
 use Rattle.rrs_lib.specs.Machine.{State}
-use Rattle.rrs_lib.specs.Steps.{Step}
+use Rattle.rrs_lib.specs.Steps.{Step, StepAnswer}
 use Rattle.rrs_trace.specs.declared.retired.Retired.{Retired}
 use Rattle.rrs_trace.specs.Retired.{Retires}
 use Rattle.rrs_exec.specs.declared.image.Image.{Image}
@@ -30,6 +30,14 @@ pub record ServesAt {E : Type 0} (serves : Relation E) (pc : ℕ) (e : E) (m : S
   pub after_call : State
   pub served : serves e m e' after_call accesses answer
   pub goes_on : t ≡ resumed answer pc after_call
+
+-- A watcher makes the step of number n from s, with this answer, and sees what it retired.
+pub record SeesStep {V : Type 0} (sees : V → Retired → V → Type 0) (n : ℕ) (v : V) (s : State)
+    (answer : StepAnswer) (t : State) (v' : V) : Type 0 where
+  pub retired : Retired
+  pub step : Step s t answer
+  pub retires : Retires n s t answer retired
+  pub seen : sees v retired v'
 
 -- By what an environment says of a call, and by what a record that is shown makes of a watcher:
 module _ {E V : Type 0} (serves : Relation E) (sees : V → Retired → V → Type 0) where

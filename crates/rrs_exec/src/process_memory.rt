@@ -6,7 +6,7 @@ ghost use Rattle.rrs_memory.specs.Bytes.{width};
 ghost use Rattle.rrs_exec.specs.ProcessPlaces.{distance, distance_below};
 
 use crate::layout::Layout;
-use crate::zero_words::ZeroWords;
+use rrs_fast::ZeroWords;
 use rrs_memory::{MemAccessSize, Memory};
 use std::alloc::{AllocError, Global};
 

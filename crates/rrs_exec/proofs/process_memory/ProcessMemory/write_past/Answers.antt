@@ -5,7 +5,7 @@ use Rattle.std.proofs.lemmas.Bool.{OnTrue_at}
 use Rattle.std.proofs.lemmas.Bool.Decides.{nat_tests}
 use Rattle.rrs_memory.specs.Bytes.{width, store, Writes}
 use Rattle.rrs_exec.specs.ProcessMemories.{process_bytes, process_writable, process_layout, lies_between}
-use Rattle.rrs_exec.proofs.ZeroBytes.{same_bytes}
+use Rattle.rrs_fast.proofs.ZeroBytes.{same_bytes}
 use Rattle.rrs_exec.proofs.ProcessAccesses.{low_write, high_write, refused}
 use Rattle.rrs_exec.proofs.process_memory.ProcessMemory.write_past.Goals as goal
 

@@ -1,9 +1,9 @@
 //! Words that are 0 until they are written.
 
-ghost use Rattle.std.specs.Prelude.{◌≡◌, ◌↔◌, ◌/◌, ◌%◌, ◌<◌, ◌≤◌, ℕ, [], Some, None, IfOk, IfSome, IsTrue, length, vec_len, vec_capacity, slice_index_or};
+ghost use Rattle.std.specs.Prelude.{◌≡◌, ◌≢◌, ◌↔◌, ◌/◌, ◌%◌, ◌<◌, ◌≤◌, ℕ, [], Some, None, IfOk, IfSome, IsTrue, length, vec_len, vec_capacity, slice_index_or};
 ghost use Rattle.std.specs.Bool.{OnTrue, OnFalse};
 ghost use Rattle.rrs_memory.specs.Bytes.{width, little_endian, store};
-ghost use Rattle.rrs_exec.specs.ZeroWords.{bytes_or_zero};
+ghost use Rattle.rrs_fast.specs.ZeroWords.{bytes_or_zero};
 
 use rrs_memory::memories::VecMemory;
 use rrs_memory::{MemAccessSize, Memory};
@@ -66,9 +66,14 @@ impl ZeroWords {
         ensures written { OnTrue result (bytes_or_zero self.new.words.mem.items
             ≡ store (bytes_or_zero self.old.words.mem.items) place (width size) value) }
         ensures refused { OnFalse result (self.new ≡ self.old) }
+        ensures others_kept { (i : ℕ) → i ≢ place / 4
+            → slice_index_or self.new.words.mem.items i 0
+            ≡ slice_index_or self.old.words.mem.items i 0 }
         ensures length_kept { length self.new.words.mem.items
             ≡ length self.old.words.mem.items }
         ensures room_kept { self.new.room ≡ self.old.room }
+        ensures reserved_kept { vec_capacity self.new.words.mem
+            ≡ vec_capacity self.old.words.mem }
     {
         if (place / 4) as usize >= self.words.mem.len() {
             return false;
@@ -83,6 +88,8 @@ impl ZeroWords {
         ensures same { (i : ℕ) → slice_index_or self.new.words.mem.items i 0
             ≡ slice_index_or self.old.words.mem.items i 0 }
         ensures room_kept { self.new.room ≡ self.old.room }
+        ensures reserved_kept { vec_capacity self.new.words.mem
+            ≡ vec_capacity self.old.words.mem }
     {
         let wanted = self.room.min(index / PAGE_WORDS * PAGE_WORDS + PAGE_WORDS);
         'zeros: while self.words.mem.len() < wanted {

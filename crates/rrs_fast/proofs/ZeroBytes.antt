@@ -1,12 +1,14 @@
 -- Words that are there, and zeros past them, as bytes.
 use Rattle.std.proofs.Common.{◌≡◌, ◌≢◌, ℕ, zero, suc, ◌+◌, ◌-◌, ◌/◌, ◌%◌, ◌^◌, ◌<◌, ◌≤◌, List, [], ◌∷◌, ◌++◌, length, slice_index, slice_index_or, Bool, true, false, ◌==◌, Some, refl, sym, ap, ◌∙◌, arith}
+use Rattle.std.proofs.Math.Nat.{zero-div}
+use Rattle.std.proofs.lemmas.List.{get_or_past}
 use Rattle.std.proofs.lemmas.Bool.Decides.{nat_tests}
 use Rattle.rrs_memory.specs.declared.MemAccessSize.{MemAccessSize}
-use Rattle.rrs_memory.specs.Bytes.{width, little_endian, all_writable, store}
+use Rattle.rrs_memory.specs.Bytes.{ByteMap, width, little_endian, all_writable, store}
 use Rattle.rrs_memory.specs.VecBytes.{bytes_of_words, lies_in_words}
 use Rattle.rrs_memory.proofs.ByteLemmas.{little_endian-moved, store_inside, store_outside, store_by, write-allowed}
 use Rattle.rrs_memory.proofs.VecWords.{byte_at, aligned_in_word}
-use Rattle.rrs_exec.specs.ZeroWords.{bytes_or_zero}
+use Rattle.rrs_fast.specs.ZeroWords.{bytes_or_zero}
 
 -- a zero more
 pub zero_pushed : (words : List ℕ) (i : ℕ) → slice_index_or (words ++ 0 ∷ []) i 0 ≡ slice_index_or words i 0
@@ -14,6 +16,15 @@ zero_pushed [] zero = refl
 zero_pushed [] (suc i) = refl
 zero_pushed (w ∷ ws) zero = refl
 zero_pushed (w ∷ ws) (suc i) = zero_pushed ws i
+
+-- zeros have the value 0
+pub zero_value : (f : ByteMap) (a n : ℕ) → ((i : ℕ) → i < n → f (a + i) ≡ Some 0) → little_endian f a n ≡ Some 0
+zero_value f a zero zeros = refl
+zero_value f a (suc n) zeros = rw (zero_value f a n (λ i less. zeros i (omega (arith, less))), zeros n (omega arith)) (ap Some (omega arith))
+
+-- a byte past the words
+pub past : (words : List ℕ) (place : ℕ) → length words ≤ place / 4 → bytes_or_zero words place ≡ Some 0
+past words place beyond = rw (get_or_past words (place / 4) 0 beyond) (ap Some (ap (λ x. x % 256) (zero-div (256 ^ (place % 4)))))
 
 -- the same words have the same bytes
 pub same_bytes : (words words' : List ℕ) → ((i : ℕ) → slice_index_or words' i 0 ≡ slice_index_or words i 0)

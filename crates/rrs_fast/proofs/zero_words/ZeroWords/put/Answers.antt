@@ -1,8 +1,8 @@
 -- The write is one of the words that are there.
 use Rattle.std.proofs.Common.{arith}
 use Rattle.std.proofs.lemmas.Bool.{OnTrue_at, OnTrue_from}
-use Rattle.rrs_exec.proofs.ZeroBytes.{stored_there}
-use Rattle.rrs_exec.proofs.zero_words.ZeroWords.put.Goals as goal
+use Rattle.rrs_fast.proofs.ZeroBytes.{stored_there}
+use Rattle.rrs_fast.proofs.zero_words.ZeroWords.put.Goals as goal
 
 pub returns-clause-written : goal.returns-clause-written
 returns-clause-written c =
