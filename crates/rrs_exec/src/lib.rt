@@ -23,17 +23,16 @@ mod progress;
 mod protected;
 mod stack;
 mod watching;
-mod zero_words;
 
 pub use image::{Image, ImageError, fill, image_of, needed_memory};
 pub use layout::{Layout, layout_of};
 pub use marks::{PAGE_BYTES, PageRange, Protection, marks_of};
 pub use process::{
-    DECODED_WORDS, LoadedProcess, ProcessEnd, execute_process, load_process, started,
+    DECODED_WORDS, KeptMemory, LoadedProcess, ProcessEnd, WATCHED_WORDS, execute_process,
+    load_process, started,
 };
 pub use process_memory::ProcessMemory;
 pub use progress::{InPieces, NoProgress, Progress};
 pub use protected::ProtectedMemory;
 pub use stack::{ProgramHeaders, initial_stack, stack_pointer};
 pub use watching::{Watcher, watch_process};
-pub use zero_words::ZeroWords;

@@ -25,6 +25,14 @@ use std::io::{Read, Write};
 /// 1.25 MiB of stack.
 pub const DECODED_WORDS: usize = 65_536;
 
+/// How many decoded words are kept of a process that a [Watcher](crate::Watcher) makes the steps of:
+/// those of 128 KiB. It is another number than [DECODED_WORDS], so that a step by itself has
+/// functions of its own, and those of a run stay parts of its loop.
+pub const WATCHED_WORDS: usize = 32_768;
+
+/// The memory of a process that is watched, with the words of it that are decoded.
+pub type KeptMemory = CachedMemory<ProtectedMemory, WATCHED_WORDS>;
+
 /// How a process ended.
 #[derive(Debug, PartialEq, Drop)]
 pub struct ProcessEnd {

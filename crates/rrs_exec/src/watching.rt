@@ -5,6 +5,7 @@ ghost use Rattle.rrs_elf.specs.Executables.{IsExecutable};
 ghost use Rattle.rrs_exec.specs.Images.{AreLong, memory_refusal};
 ghost use Rattle.rrs_lib.specs.Executor.{state_in, KeepsTheRest};
 ghost use Rattle.rrs_exec.specs.ProcessMemories.{process_bytes, process_writable};
+ghost use Rattle.rrs_exec.specs.Protection.{protected_bytes, protected_writable, protected_layout, protected_reads, ProtectedWrites};
 ghost use Rattle.rrs_trace.specs.declared.retired.Retired.{Retired};
 ghost use Rattle.rrs_fast.specs.Serving.{MakesSome};
 ghost use Rattle.rrs_elf.specs.declared.errors.ElfError.{ElfError};
@@ -12,30 +13,54 @@ ghost use Rattle.rrs_elf.specs.Refusals.{first_refusal, checks};
 ghost use Rattle.rrs_exec.specs.Watching.{ServesAt, Turn, IsWatched, WatchesImage, WatchesProcess};
 
 use crate::image::{Image, ImageError};
-use crate::process::{LoadedProcess, ProcessEnd, load_process, started};
+use crate::process::{KeptMemory, LoadedProcess, ProcessEnd, load_process, started};
 use crate::process_memory::ProcessMemory;
 use crate::progress::Progress;
 use crate::protected::ProtectedMemory;
-use rrs_fast::{Ending, Environment, ServedEnd};
+use rrs_fast::{CachedMemory, Ending, Environment, ServedEnd};
 use rrs_lib::Memory;
 use rrs_lib::instruction_executor::{InstructionException, InstructionExecutor};
 use rrs_linux::{Heap, Linux};
-use rrs_trace::{Retired, step_retired};
 use std::alloc::Global;
 use std::io::{Read, Write};
 
+/// How many steps are made before a progress is told of them.
+const PIECE: u64 = 1 << 16;
+
 /// What is shown each step of a run.
 pub trait Watcher {
+    ghost use Rattle.rrs_lib.specs.Executor.{state_in, KeepsTheRest};
+    ghost use Rattle.rrs_lib.specs.Accesses.{AccessesOf, MakesExactly};
+    ghost use Rattle.rrs_exec.specs.Protection.{protected_bytes, protected_writable, protected_layout, protected_reads, ProtectedWrites};
+    ghost use Rattle.rrs_exec.specs.Watching.{SeesStep};
+
     /// What a record that is shown makes of the watcher.
     ghost sees: { Self → Retired → Self → Type 0 };
 
     /// Whether the watcher wants to see more.
     ghost wants: { Self → Bool };
 
-    /// Is shown what a step retired. Of an `ecall` that is served, and of a fault, the record has
-    /// `trap` set, and neither says what the call returns.
-    fn see(&mut self, retired: &Retired)
-        ensures { sees self.old retired.now self.new };
+    /// Makes the step of this number of a process, and sees what it retired. Of an `ecall` that is
+    /// served, and of a fault, the record has `trap` set, and neither says what the call returns.
+    ///
+    /// A watcher that needs no record makes the step by [step_cached](rrs_fast::step_cached), and
+    /// one that does by [step_retired](rrs_trace::step_retired).
+    ///
+    /// # Errors
+    ///
+    /// The exceptions of `step`.
+    fn watch_step(
+        &mut self,
+        executor: &mut InstructionExecutor<KeptMemory>,
+        number: u64,
+    ) -> Result<(), InstructionException>
+        ensures seen { SeesStep sees number self.old
+            (state_in protected_bytes protected_writable executor.old) result
+            (state_in protected_bytes protected_writable executor.new) self.new }
+        ensures rest { KeepsTheRest protected_layout executor.old executor.new }
+        ensures accesses { MakesExactly protected_reads ProtectedWrites
+            (AccessesOf (state_in protected_bytes protected_writable executor.old))
+            executor.old.mem.now executor.new.mem.now };
 
     /// Whether the run is to go on. It is asked before each step.
     fn wants_more(&self) -> bool
@@ -64,13 +89,6 @@ fn serve_at<M: Memory, E: Environment>(
     }
 }
 
-/// Shows a watcher what a step retired.
-fn show<V: Watcher>(watcher: &mut V, retired: &Retired)
-    ensures { V.sees watcher.old retired.now watcher.new }
-{
-    watcher.see(retired);
-}
-
 /// Whether a watcher wants to see more.
 fn wants_more<V: Watcher>(watcher: &V) -> bool
     ensures { result ≡ V.wants watcher.now }
@@ -78,28 +96,28 @@ fn wants_more<V: Watcher>(watcher: &V) -> bool
     watcher.wants_more()
 }
 
-/// Makes the step of this number, shows what it retired, and has an `ecall` served. The answer is
+/// Has a watcher make the step of this number, and has an `ecall` served. The answer is
 /// `None` where the program goes on, or the status with which the call ended it.
 ///
 /// # Errors
 ///
 /// The exceptions of `step` but `EnvironmentCall`.
-fn take_turn<M: Memory, E: Environment, V: Watcher>(
-    executor: &mut InstructionExecutor<M>,
+fn take_turn<E: Environment, V: Watcher>(
+    executor: &mut InstructionExecutor<KeptMemory>,
     environment: &mut E,
     watcher: &mut V,
     number: u64,
 ) -> Result<Option<u32>, InstructionException>
-    ensures turn { MakesSome M.reads M.writes
+    ensures turn { MakesSome protected_reads ProtectedWrites
         (Turn E.serves V.sees number
-        environment.old (state_in M.bytes M.writable executor.old) watcher.old result
-        environment.new (state_in M.bytes M.writable executor.new) watcher.new)
+        environment.old (state_in protected_bytes protected_writable executor.old)
+        watcher.old result
+        environment.new (state_in protected_bytes protected_writable executor.new)
+        watcher.new)
         executor.old.mem.now executor.new.mem.now }
-    ensures rest { KeepsTheRest M.layout executor.old executor.new }
+    ensures rest { KeepsTheRest protected_layout executor.old executor.new }
 {
-    let (answer, retired) = step_retired(executor, number);
-    show(watcher, &retired);
-    let Err(exception) = answer else {
+    let Err(exception) = watcher.watch_step(executor, number) else {
         return Ok(None);
     };
     match exception {
@@ -108,23 +126,32 @@ fn take_turn<M: Memory, E: Environment, V: Watcher>(
     }
 }
 
+/// Tells a progress of a piece of steps, at the step of this number that is the last of one.
+#[inline(always)]
+fn tell<P: Progress>(progress: &mut P, number: u64) {
+    if number % PIECE == PIECE - 1 {
+        progress.add(PIECE);
+    }
+}
+
 /// Makes steps up to `limit`, to an exception, until the environment ends the program, or until the
 /// watcher wants no more, which ends the run as a limit does. Each step is shown, and the progress
-/// is told of each that the program goes on after.
-fn run_watched<M: Memory, E: Environment, V: Watcher, P: Progress>(
-    executor: &mut InstructionExecutor<M>,
+/// is told of each piece of them.
+#[inline(never)]
+fn run_watched<E: Environment, V: Watcher, P: Progress>(
+    executor: &mut InstructionExecutor<KeptMemory>,
     environment: &mut E,
     watcher: &mut V,
     limit: u64,
     progress: &mut P,
 ) -> ServedEnd
-    ensures watched { MakesSome M.reads M.writes
+    ensures watched { MakesSome protected_reads ProtectedWrites
         (IsWatched E.serves V.sees V.wants limit
-        environment.old (state_in M.bytes M.writable executor.old) watcher.old
+        environment.old (state_in protected_bytes protected_writable executor.old) watcher.old
         result.steps result.ending
-        environment.new (state_in M.bytes M.writable executor.new) watcher.new)
+        environment.new (state_in protected_bytes protected_writable executor.new) watcher.new)
         executor.old.mem.now executor.new.mem.now }
-    ensures rest { KeepsTheRest M.layout executor.old executor.new }
+    ensures rest { KeepsTheRest protected_layout executor.old executor.new }
 {
     for steps in 0..limit {
         if !wants_more(watcher) {
@@ -132,7 +159,7 @@ fn run_watched<M: Memory, E: Environment, V: Watcher, P: Progress>(
             return ServedEnd { steps, ending };
         }
         match take_turn(executor, environment, watcher, steps) {
-            Ok(None) => progress.add(1),
+            Ok(None) => tell(progress, steps),
             Ok(Some(status)) => {
                 return ServedEnd {
                     steps: steps + 1,
@@ -174,9 +201,10 @@ fn watch_image<R: Read, W: Write, E: Write, V: Watcher, P: Progress>(
     } = image;
     environment.heap = Heap::new(layout.heap_start, layout.heap_end);
     let mut hart = started(entry, stack_pointer);
-    let mut protected = ProtectedMemory { memory, marks };
+    let protected = ProtectedMemory { memory, marks };
+    let mut cached: KeptMemory = CachedMemory::new(protected);
     let mut executor = InstructionExecutor {
-        mem: &mut protected,
+        mem: &mut cached,
         hart_state: &mut hart,
     };
     let ServedEnd { steps, ending } = run_watched(

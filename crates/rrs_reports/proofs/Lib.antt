@@ -1,3 +1,4 @@
 pub mod Records
 pub mod Covering
 pub mod Logging
+pub mod Unrecorded

@@ -1,5 +1,6 @@
 -- How often each word of code was executed: the steps whose pc it was. A fault is no step.
-use Rattle.std.specs.Prelude.{◌≡◌, ℕ, ◌+◌, ◌-◌, ◌*◌, ◌/◌, ◌%◌, ◌^◌, ◌<◌, ◌==◌, nat_lt, cond, min, List, length, get_or, count_by, Bool, true, false, Option, Some, None}
+use Rattle.std.specs.Prelude.{◌≡◌, ℕ, ◌+◌, ◌-◌, ◌*◌, ◌/◌, ◌%◌, ◌^◌, ◌<◌, ◌==◌, if◌then◌else◌, nat_lt, cond, min, List, length, get_or, count_by, Bool, true, false, Option, Some, None}
+use Rattle.rrs_lib.specs.Bytes.{ByteMap, little_endian}
 use Rattle.rrs_trace.specs.declared.retired.Retired.{Retired}
 use Rattle.rrs_fast.specs.declared.serving.Ending.{Ending}
 use Rattle.rrs_linux.specs.declared.Process.{Process}
@@ -14,6 +15,10 @@ abbrev pub has_word : ℕ → ℕ → ℕ → Bool
 has_word base words address =
     cond (nat_lt address base) false
     (cond ((address - base) % 4 == 0) (nat_lt ((address - base) / 4) words) false)
+
+-- the word at an address, if it is aligned and mapped
+abbrev pub word_of : ByteMap → ℕ → Option ℕ
+word_of bytes a = if a % 4 == 0 then little_endian bytes a 4 else None
 
 -- whether the record is of a step: a word was committed
 abbrev pub is_step : Retired → Bool

@@ -4,8 +4,8 @@
 use crate::code::{Code, entry};
 use std::alloc::{AllocError, Global};
 
-/// How a step went on to the next one.
-#[derive(Clone, Copy)]
+/// How a step went on to the next one. A jump to the next instruction is in no special way.
+#[derive(Clone, Copy, PartialEq)]
 enum Kind {
     /// By `jal` or `jalr` that writes x1 or x5, the registers for return addresses.
     Call,
@@ -13,6 +13,8 @@ enum Kind {
     Return,
     /// In another way.
     Other,
+    /// There was none: the run starts.
+    Start,
 }
 
 /// The calls of a function from an instruction.
@@ -70,15 +72,16 @@ pub struct Calls {
     entries: Vec<u64>,
     /// The functions that have not returned, the latest last.
     frames: Vec<Frame>,
-    /// The step before, if there was one.
-    before: Option<Before>,
-    /// How many steps were made.
+    /// The step before.
+    before: Before,
+    /// How many steps were made before the latest one, or at the end all.
     steps: u64,
     /// Whether memory was short, and calls are missing.
     is_short: bool,
 }
 
 /// How the word of a step goes on.
+#[inline(never)]
 fn kind_of(word: u32) -> Kind {
     let (opcode, rd, rs1) = (word % 128, word / 128 % 32, word / 32768 % 32);
     let is_link = rd == 1 || rd == 5;
@@ -103,7 +106,11 @@ impl Calls {
             first: vec![in alloc; 0; code.words()]?,
             entries: vec![in alloc; 0; functions]?,
             frames: Vec::new(alloc),
-            before: None,
+            before: Before {
+                pc: 0,
+                owner: 0,
+                kind: Kind::Start,
+            },
             steps: 0,
             is_short: false,
         })
@@ -232,25 +239,31 @@ impl Calls {
         false
     }
 
-    /// Takes in the step of a word at an address, which goes on from the step before.
-    pub fn add(&mut self, code: &Code<'_>, pc: u32, word: u32) {
-        let owner = code.owner_of(pc);
-        match self.before {
-            None => {
+    /// Takes in the step of this number, at an address that a function has, which goes on from the
+    /// step before. The word there may be 0 where the next step is behind it.
+    #[inline(always)]
+    pub fn add(&mut self, code: &Code<'_>, number: u64, pc: u32, owner: u32, word: u32) {
+        if self.before.kind != Kind::Other || self.before.owner != owner {
+            self.steps = number;
+            self.go_on(code, self.before, pc, owner);
+        }
+        let kind = if word == 0 {
+            Kind::Other
+        } else {
+            kind_of(word)
+        };
+        self.before = Before { pc, owner, kind };
+    }
+
+    /// Goes on from a step to an address.
+    #[inline(never)]
+    fn go_on(&mut self, code: &Code<'_>, before: Before, pc: u32, owner: u32) {
+        match before.kind {
+            Kind::Start => {
                 if let Some(count) = self.entries.get_mut(owner as usize) {
                     *count = count.saturating_add(1);
                 }
             }
-            Some(before) => self.go_on(code, before, pc, owner),
-        }
-        let kind = kind_of(word);
-        self.before = Some(Before { pc, owner, kind });
-        self.steps = self.steps.saturating_add(1);
-    }
-
-    /// Goes on from a step to an address.
-    fn go_on(&mut self, code: &Code<'_>, before: Before, pc: u32, owner: u32) {
-        match before.kind {
             Kind::Call => self.enter(code, before, owner, false),
             Kind::Return if self.return_to(pc) => {}
             _ if owner == before.owner => {}
@@ -259,8 +272,9 @@ impl Calls {
         }
     }
 
-    /// Takes all functions as returned, at the end of a run.
-    pub fn finish(&mut self) {
+    /// Takes all functions as returned, at the end of a run of so many steps.
+    pub fn finish(&mut self, steps: u64) {
+        self.steps = steps;
         self.leave_down_to(0);
     }
 }

@@ -31,6 +31,7 @@ pub struct Code<'a> {
 }
 
 /// The entry at a place, or 0 where there is none.
+#[inline]
 pub(crate) fn entry(entries: &[u32], place: usize) -> u32 {
     entries.get(place).copied().unwrap_or(0)
 }
@@ -190,6 +191,12 @@ impl<'a> Code<'a> {
     /// among the functions, or 0 where it belongs to none.
     pub fn owner_of(&self, address: u32) -> u32 {
         entry(&self.owners, self.place_of(address))
+    }
+
+    /// The same of the word at a place from the lowest address on.
+    #[inline]
+    pub(crate) fn owner_at(&self, place: usize) -> u32 {
+        entry(&self.owners, place)
     }
 
     /// Whether a function begins at an address.

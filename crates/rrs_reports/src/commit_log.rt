@@ -6,10 +6,11 @@ ghost use Rattle.rrs_reports.specs.CommitLogs.{committed, written_text, store_di
 
 use arrayvec::ArrayString;
 use itoa::Buffer;
-use rrs_exec::{ImageError, ProcessEnd, Progress, Watcher, watch_process};
+use rrs_exec::{ImageError, KeptMemory, ProcessEnd, Progress, Watcher, watch_process};
 use rrs_lib::disassembly::hexadecimal_digits;
+use rrs_lib::instruction_executor::{InstructionException, InstructionExecutor};
 use rrs_linux::Linux;
-use rrs_trace::{MemoryAccess, Retired};
+use rrs_trace::{MemoryAccess, Retired, step_retired};
 use std::alloc::Global;
 use std::io::{Read, Write};
 
@@ -18,7 +19,7 @@ use std::io::{Read, Write};
 const LINE_CAPACITY: usize = 96;
 
 /// The word of `ecall`.
-const ECALL: u32 = 0x73;
+pub(crate) const ECALL: u32 = 0x73;
 
 /// A line of a commit log, which lies in the value itself.
 pub type CommitLine = ArrayString<LINE_CAPACITY>;
@@ -121,14 +122,13 @@ pub struct CommitLog<'a, W: Write> {
     pub is_broken: bool,
 }
 
-impl<'a, W: Write> Watcher for CommitLog<'a, W> {
-    ghost use Rattle.rrs_reports.specs.CommitLogs.{Logs, wants_lines};
+impl<'a, W: Write> CommitLog<'a, W> {
+    ghost use Rattle.rrs_reports.specs.CommitLogs.{Logs};
 
-    ghost sees = { Logs W.contents };
-
-    ghost wants = { wants_lines };
-
-    fn see(&mut self, retired: &Retired) {
+    /// Writes the line of what a step retired.
+    fn see(&mut self, retired: &Retired)
+        ensures { Logs W.contents self.old retired.now self.new }
+    {
         if self.from == Some(retired.pc_rdata) {
             self.from = None;
         }
@@ -141,6 +141,24 @@ impl<'a, W: Write> Watcher for CommitLog<'a, W> {
                 self.is_broken = true;
             }
         }
+    }
+}
+
+impl<'a, W: Write> Watcher for CommitLog<'a, W> {
+    ghost use Rattle.rrs_reports.specs.CommitLogs.{Logs, wants_lines};
+
+    ghost sees = { Logs W.contents };
+
+    ghost wants = { wants_lines };
+
+    fn watch_step(
+        &mut self,
+        executor: &mut InstructionExecutor<KeptMemory>,
+        number: u64,
+    ) -> Result<(), InstructionException> {
+        let (answer, retired) = step_retired(executor, number);
+        self.see(&retired);
+        answer
     }
 
     fn wants_more(&self) -> bool {

@@ -1,10 +1,9 @@
 //! How often each word of an executable's code was executed.
 
 ghost use Rattle.std.specs.Prelude.{◌≡◌, ◌+◌, ◌*◌, ◌<◌, ℕ, length, get_or, replicate, false, true, MatchOption, IfOk};
-ghost use Rattle.rrs_reports.specs.Coverages.{Counts, has_word};
+ghost use Rattle.rrs_trace.specs.declared.retired.Retired.{Retired};
+ghost use Rattle.rrs_reports.specs.Coverages.{Counts, has_word, is_step};
 
-use crate::commit_log::committed_word;
-use rrs_trace::Retired;
 use std::alloc::{AllocError, Global};
 
 /// How often each word of code was executed. A count that would be 2^64 stays 2^64 - 1.
@@ -37,6 +36,7 @@ impl Coverage {
     }
 
     /// The number of the word at an address, if there is one.
+    #[inline(always)]
     fn place_of(&self, address: u32) -> Option<usize>
         ensures { MatchOption result
             (has_word self.now.base (length self.now.counts.items) address ≡ false)
@@ -69,16 +69,24 @@ impl Coverage {
         }
     }
 
-    /// Counts a step, where the record is of one. A fault is none.
-    pub fn add(&mut self, retired: &Retired)
-        ensures { Counts self.old retired.now self.new }
+    /// Counts a step at an address, and gives the number of the word there, if there is one.
+    #[inline(always)]
+    pub fn add(&mut self, address: u32) -> Option<usize>
+        ensures counts { (r : Retired) → r.pc_rdata ≡ address → is_step r ≡ true
+            → Counts self.old r self.new }
+        ensures place { MatchOption result
+            (has_word self.old.base (length self.old.counts.items) address ≡ false)
+            (λ place. address ≡ self.old.base + 4 * place) }
     {
-        if committed_word(retired).is_none() {
-            return;
-        }
-        match self.place_of(retired.pc_rdata) {
-            Some(place) => self.counts[place] = self.counts[place].saturating_add(1),
-            None => self.elsewhere = self.elsewhere.saturating_add(1),
+        match self.place_of(address) {
+            Some(place) => {
+                self.counts[place] = self.counts[place].saturating_add(1);
+                Some(place)
+            }
+            None => {
+                self.elsewhere = self.elsewhere.saturating_add(1);
+                None
+            }
         }
     }
 }

@@ -7,7 +7,7 @@ use crate::sections::CodePart;
 use rrs_lib::disassembly::{Disassembled, hexadecimal_digits};
 use rrs_lib::instruction::{Instruction, decode};
 use rrs_lib::instruction_formats::{BType, JType};
-use rrs_words::{decode_system, system_text};
+use rrs_words::{decode_layer, layer_text};
 use std::io::{self, Write};
 
 /// The address that an instruction jumps to, if it is a branch or `jal`.
@@ -39,8 +39,8 @@ fn write_place<W: Write>(out: &mut Pieces<'_, W>, code: &Code<'_>, address: u32)
 /// Writes the text of a word, and of a jump where it goes.
 fn write_word<W: Write>(out: &mut Pieces<'_, W>, code: &Code<'_>, address: u32, word: u32) {
     let Some(instruction) = decode(word) else {
-        match decode_system(word) {
-            Some(system) => out.text(system_text(&system).as_str()),
+        match decode_layer(word) {
+            Some(layer) => out.text(layer_text(&layer).as_str()),
             None => out.hexadecimal(".word 0x", 8, word),
         }
         return;

@@ -1,15 +1,24 @@
 //! What a run of an executable covered: how often each word and each function was executed.
 
-ghost use Rattle.std.specs.Prelude.{◌≡◌, ℕ, map, replicate, string_bytes, IfOk, OnErr};
-ghost use Rattle.rrs_reports.specs.Coverages.{Counts, CoversProcess};
+ghost use Rattle.std.specs.Prelude.{◌≡◌, ◌≢◌, ℕ, true, Some, map, replicate, string_bytes, IfOk, OnErr};
+ghost use Rattle.std.specs.Bool.{OnTrue, OnFalse};
+ghost use Rattle.rrs_lib.specs.Machine.{State};
+ghost use Rattle.rrs_lib.specs.Steps.{Step};
+ghost use Rattle.rrs_trace.specs.Retired.{Retires};
+ghost use Rattle.rrs_exec.specs.Protection.{protected_bytes};
+ghost use Rattle.rrs_trace.specs.declared.retired.Retired.{Retired};
+ghost use Rattle.rrs_reports.specs.CommitLogs.{ecall};
+ghost use Rattle.rrs_reports.specs.Coverages.{Counts, CoversProcess, is_step, word_of};
 
 use crate::calls::Calls;
 use crate::code::Code;
-use crate::commit_log::committed_word;
+use crate::commit_log::ECALL;
 use crate::coverage::Coverage;
-use rrs_exec::{ImageError, ProcessEnd, Progress, Watcher, watch_process};
+use rrs_exec::{ImageError, KeptMemory, ProcessEnd, Progress, Watcher, watch_process};
+use rrs_fast::step_cached;
+use rrs_lib::instruction_executor::{InstructionException, InstructionExecutor};
+use rrs_lib::{MemAccessSize, Memory};
 use rrs_linux::Linux;
-use rrs_trace::Retired;
 use std::alloc::{AllocError, Global};
 use std::io::{Read, Write};
 
@@ -43,6 +52,87 @@ impl<'a, 'b> Profile<'a, 'b> {
     }
 }
 
+/// The word at an address of a process, if it is aligned and mapped.
+fn word_at(memory: &mut KeptMemory, address: u32) -> Option<u32>
+    ensures word { result ≡ word_of (protected_bytes memory.old) address }
+    ensures kept { memory.new ≡ memory.old }
+{
+    if address % 4 != 0 {
+        return None;
+    }
+    memory.read_mem(address, MemAccessSize::Word)
+}
+
+/// Whether the word at an address of a process is an `ecall`.
+fn is_ecall_at(memory: &mut KeptMemory, address: u32) -> bool
+    ensures yes { OnTrue result (word_of (protected_bytes memory.old) address ≡ Some ecall) }
+    ensures no { OnFalse result (word_of (protected_bytes memory.old) address ≢ Some ecall) }
+    ensures kept { memory.new ≡ memory.old }
+{
+    match word_at(memory, address) {
+        Some(word) => word == ECALL,
+        None => false,
+    }
+}
+
+/// The word of a step that was made at an address, where the program went on elsewhere than behind
+/// it, and else 0.
+#[inline(always)]
+fn word_left(memory: &mut KeptMemory, pc: u32, next: u32) -> u32
+    ensures { memory.new ≡ memory.old }
+{
+    if next == pc.wrapping_add(4) {
+        return 0;
+    }
+    match word_at(memory, pc) {
+        Some(word) => word,
+        None => 0,
+    }
+}
+
+impl Profile<'_, '_> {
+    /// Counts the step of this number, which was made at an address where this word is.
+    #[inline(always)]
+    fn count(&mut self, number: u64, pc: u32, word: u32)
+        ensures { (r : Retired) → r.pc_rdata ≡ pc → is_step r ≡ true
+            → Counts self.old.coverage r self.new.coverage }
+    {
+        let owner = match self.coverage.add(pc) {
+            Some(place) => self.code.owner_at(place),
+            None => 0,
+        };
+        self.calls.add(self.code, number, pc, owner, word);
+    }
+
+    /// Counts the step of this number from one pc to another, if it is no fault.
+    #[inline(always)]
+    fn see(
+        &mut self,
+        memory: &mut KeptMemory,
+        number: u64,
+        pc: u32,
+        next: u32,
+        answer: Result<(), InstructionException>,
+    )
+        ensures counts { (n : ℕ) (s t : State) (r : Retired) → s.pc ≡ pc
+            → t.bytes ≡ protected_bytes memory.old → Step s t answer → Retires n s t answer r
+            → Counts self.old.coverage r self.new.coverage }
+        ensures kept { memory.new ≡ memory.old }
+    {
+        match answer {
+            Ok(()) => {
+                let word = word_left(memory, pc, next);
+                self.count(number, pc, word);
+            }
+            Err(_) => {
+                if is_ecall_at(memory, pc) {
+                    self.count(number, pc, ECALL);
+                }
+            }
+        }
+    }
+}
+
 impl Watcher for Profile<'_, '_> {
     ghost use Rattle.std.specs.Prelude.{true};
 
@@ -50,11 +140,17 @@ impl Watcher for Profile<'_, '_> {
 
     ghost wants = { λ profile. true };
 
-    fn see(&mut self, retired: &Retired) {
-        self.coverage.add(retired);
-        if let Some(word) = committed_word(retired) {
-            self.calls.add(self.code, retired.pc_rdata, word);
-        }
+    /// No record is made. The word of a step is read where it jumps, and after an exception.
+    #[inline(always)]
+    fn watch_step(
+        &mut self,
+        executor: &mut InstructionExecutor<KeptMemory>,
+        number: u64,
+    ) -> Result<(), InstructionException> {
+        let pc = executor.hart_state.pc;
+        let answer = step_cached(executor);
+        self.see(executor.mem, number, pc, executor.hart_state.pc, answer);
+        answer
     }
 
     fn wants_more(&self) -> bool {
@@ -96,6 +192,6 @@ pub fn cover_process<'a, 'b, R: Read, W: Write, E: Write, P: Progress>(
         &mut profile,
         progress,
     )?;
-    profile.calls.finish();
+    profile.calls.finish(end.steps);
     Ok((end, profile))
 }

@@ -1,13 +1,13 @@
 use Rattle.rrs_lib.specs.Executor.{state_in, KeepsTheRest}
+use Rattle.rrs_exec.specs.Protection.{protected_bytes, protected_writable, protected_layout, protected_reads, ProtectedWrites}
 use Rattle.rrs_exec.proofs.WatchedRuns.{Leads}
 use Rattle.rrs_exec.proofs.watching.run_watched.Given as goal
 
 -- the turns so far
 abbrev pub invariant-loop-steps : goal.invariant-loop-steps
 invariant-loop-steps g l =
-    let memory = g.M.Memory in
-    let state = state_in memory.bytes memory.writable in
+    let state = state_in protected_bytes protected_writable in
     record {
-      leads : Leads g.E.Environment.serves g.V.Watcher.sees g.V.Watcher.wants memory.reads memory.writes l.fn.environment (state l.fn.executor) l.fn.watcher l.fn.executor.mem.now l.steps l.environment (state l.executor) l.watcher l.executor.mem.now;
-      rest : KeepsTheRest memory.layout l.fn.executor l.executor;
+      leads : Leads g.E.Environment.serves g.V.Watcher.sees g.V.Watcher.wants protected_reads ProtectedWrites l.fn.environment (state l.fn.executor) l.fn.watcher l.fn.executor.mem.now l.steps l.environment (state l.executor) l.watcher l.executor.mem.now;
+      rest : KeepsTheRest protected_layout l.fn.executor l.executor;
     }

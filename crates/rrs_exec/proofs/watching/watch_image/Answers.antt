@@ -1,9 +1,10 @@
 -- The watched run begins in the image, with the heap that was set.
 use Rattle.std.proofs.Common.{subst, refl}
-use Rattle.rrs_lib.specs.Machine.{State}
+use Rattle.rrs_lib.specs.Machine.{State, state_of}
 use Rattle.rrs_lib.specs.Executor.{state_in}
 use Rattle.rrs_exec.specs.ProcessMemories.{process_bytes, process_writable}
 use Rattle.rrs_exec.specs.Protection.{protected_bytes, protected_writable}
+use Rattle.rrs_exec.specs.declared.protected.ProtectedMemory.{ProtectedMemory}
 use Rattle.rrs_fast.specs.Serving.{Served}
 use Rattle.rrs_linux.specs.declared.Heap.{Heap}
 use Rattle.rrs_linux.specs.SystemCalls.{Serves}
@@ -28,6 +29,11 @@ returns g c =
     Shown serves g.V.Watcher.sees g.V.Watcher.wants (record c.args.environment.now { heap = heap }) s c.args.watcher.now end.ending end.steps new last c.run_watched-steps.new.watcher in
     let heaps = c.new-environment.ensures in
     let states = c.started-hart.ensures _ _ in
+    let hart = c.started-hart.result in
+    let ServedIn : ProtectedMemory → Type 0 = λ m. P c.new-environment.result (state_of hart (protected_bytes m) (protected_writable m)) in
+    let ShownIn : ProtectedMemory → Type 0 = λ m. Q c.new-environment.result (state_of hart (protected_bytes m) (protected_writable m)) in
+    let served = subst ServedIn c.new-cached.ensures watched.served in
+    let shown = subst ShownIn c.new-cached.ensures watched.shown in
     record {
       most = watched.most;
       within = watched.within;
@@ -36,7 +42,7 @@ returns g c =
         end = last;
         stands = refl;
         accesses = made.accesses;
-        served = subst (λ heap. P heap from) heaps (subst (P c.new-environment.result) states watched.served);
+        served = subst (λ heap. P heap from) heaps (subst (P c.new-environment.result) states served);
       };
-      shown = subst (λ heap. Q heap from) heaps (subst (Q c.new-environment.result) states watched.shown);
+      shown = subst (λ heap. Q heap from) heaps (subst (Q c.new-environment.result) states shown);
     }
