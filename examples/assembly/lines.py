@@ -5,6 +5,7 @@ usage: lines.py SEED COUNT            a source of so many statements, all of the
        lines.py SEED COUNT changed    lines of such a source, cut short or with a byte changed
        lines.py SEED COUNT each       of so many lines each beginning, and each with one byte
                                       changed, at each place
+       lines.py SEED COUNT .. layers  the same of instructions on CSRs and of extension A alone
        lines.py --behind FOLDER       of each directive a source, one of which has a text behind it
                                       that it does not take
        lines.py --refused SOURCE ERRORS   the lines of a source that GNU as refuses, by the errors
@@ -29,6 +30,8 @@ AGAINST_ZERO = "beqz bnez blez bgez bltz bgtz".split()
 OF_ONE = "mv not neg seqz snez sltz sgtz".split()
 CSR_ROWS = "csrrw csrrs csrrc".split()
 CSR_WRITES = "csrw csrs csrc".split()
+ATOMIC = "sc.w amoswap.w amoadd.w amoxor.w amoand.w amoor.w amomin.w amomax.w amominu.w amomaxu.w".split()
+ORDERS = ["", "", ".aq", ".rl", ".aqrl"]
 COUNTERS = "rdcycle rdtime rdinstret rdcycleh rdtimeh rdinstreth".split()
 CSRS = ("mstatus misa mie mtvec mstatush mcountinhibit mscratch mepc mcause mtval mip mcycle "
         "minstret mcycleh minstreth cycle time instret cycleh timeh instreth mvendorid marchid "
@@ -68,8 +71,10 @@ PLACE_OPERATED = re.compile(rb"(?<![\w.$])\.(?![\w.$])\s*[*/<>|&^!~=%]")
 
 
 class Source:
-    def __init__(self, seed, is_apart=False):
+    def __init__(self, seed, is_apart=False, is_of_layers=False):
         self.random = random.Random(seed)
+        # whether each statement is an instruction that is no row of the kit
+        self.is_of_layers = is_of_layers
         # whether a line means the same wherever it stands
         self.is_apart = is_apart
         self.lines = []
@@ -176,7 +181,7 @@ class Source:
             place = pick(["first", "last", "first + 8", "last - 4"])
             return pick([f"la {join(r(), place)}", f"call {place}", f"tail {place}"])
         if kind == 20:
-            return self.system()
+            return self.layer()
         if kind == 21:
             return pick([
                 f".word {join(self.word(), 'last - first', '-1', 'constant')}",
@@ -194,6 +199,17 @@ class Source:
                      f".word {join(self.operated(), self.operated())}",
                      f".word near{self.labels}, last"])
 
+    def layer(self):
+        """An instruction that is no row of the kit."""
+        return self.random.choice([self.system, self.system, self.atomic])()
+
+    def atomic(self):
+        """An instruction of extension A."""
+        r, join, pick = self.register, self.join, self.random.choice
+        address = pick(["", "", "0", "-0", "(3 - 3)", "constant - constant"]) + f"({r()})"
+        return pick([f"lr.w{pick(ORDERS)} {join(r(), address)}",
+                     *[f"{name}{pick(ORDERS)} {join(r(), r(), address)}" for name in ATOMIC]])
+
     def system(self):
         """An instruction on a CSR, or one that is alone."""
         r, join, pick = self.register, self.join, self.random.choice
@@ -208,7 +224,7 @@ class Source:
         self.lines = [".equ constant, 12", "first:", "near0: nop", "1:", "2:", "near1:"]
         self.labels = 2
         while len(self.lines) < count:
-            text = self.statement()
+            text = self.layer() if self.is_of_layers else self.statement()
             self.since += 1
             comment = self.random.choice(["", "", "", "  # note", " # ; , ("])
             opening = self.random.choice(["", "", "    ", "\t"])
@@ -338,8 +354,8 @@ def main():
     if sys.argv[1] == "--refused":
         sys.exit(refused(*sys.argv[2:]))
     kinds = {"changed": changed, "each": each}
-    kind = kinds.get(sys.argv[3]) if len(sys.argv) > 3 else None
-    source = Source(int(sys.argv[1]), kind is not None)
+    kind = next((kinds[word] for word in sys.argv[3:] if word in kinds), None)
+    source = Source(int(sys.argv[1]), kind is not None, "layers" in sys.argv[3:])
     count = int(sys.argv[2])
     if kind is None:
         print("\n".join(source.make(count)))

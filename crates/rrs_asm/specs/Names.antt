@@ -10,6 +10,8 @@ use Rattle.rrs_instruction.specs.declared.instruction_formats.IType.{IType}
 use Rattle.rrs_words.specs.declared.instructions.SystemRow.{SystemRow}
 use Rattle.rrs_words.specs.declared.instructions.SystemRow.TheVariants as Row
 use Rattle.rrs_words.specs.SystemInstructions.{system_table, csr_number}
+use Rattle.rrs_words.specs.declared.layers.LayerInstruction.{LayerInstruction}
+use Rattle.rrs_words.specs.AtomicTexts.{atomic_name}
 use Rattle.rrs_asm.specs.declared.system.Counter.{Counter}
 use Rattle.rrs_asm.specs.declared.system.SystemForm.{SystemForm}
 use Rattle.rrs_asm.specs.declared.pseudo.Unary.{Unary}
@@ -220,10 +222,16 @@ is_common_name name = begins_with_dot name && is_one_of common_names name
 
 -- ---- statements
 
+-- an instruction of a layer is one of this name
+abbrev pub IsLayerNamed : List ℕ → LayerInstruction → Type 0
+IsLayerNamed name (LayerInstruction.System i) =
+    is_one_of (system_names i.row i.fields) name ≡ true
+IsLayerNamed name (LayerInstruction.Atomic i) = atomic_name i.row i.fields.funct7 ≡ name
+
 -- a statement is one of this name
 abbrev pub IsNamed : List ℕ → Statement → Type 0
 IsNamed name (Statement.Instruction i) = (table (row_of i)).name ≡ name
-IsNamed name (Statement.System i) = is_one_of (system_names i.row i.fields) name ≡ true
+IsNamed name (Statement.Layer i) = IsLayerNamed name i
 IsNamed name (Statement.Pseudo pseudo) = pseudo_name pseudo ≡ name
 IsNamed name (Statement.Data count) = is_one_of data_names name ≡ true
 IsNamed name (Statement.Fill count byte) = is_one_of fill_names name ≡ true

@@ -3,7 +3,7 @@ use Rattle.std.specs.Prelude.{◌≡◌, ℕ, ◌+◌, ◌%◌, ◌^◌, List, [
 use Rattle.std.specs.Int.{to_le_bytes, w32}
 use Rattle.rrs_instruction.specs.declared.instruction.Instruction.{Instruction}
 use Rattle.rrs_instruction.specs.Instructions.{IsInstruction}
-use Rattle.rrs_words.specs.SystemInstructions.{IsSystem}
+use Rattle.rrs_words.specs.Layers.{IsOfLayer}
 use Rattle.rrs_asm.specs.declared.statements.Statement.{Statement}
 use Rattle.rrs_asm.specs.declared.output.Label.{Label}
 use Rattle.rrs_asm.specs.declared.output.Placed.{Placed}
@@ -21,8 +21,7 @@ AreWords (i ∷ others) bytes =
 -- the bytes are those of a statement
 abbrev pub AreBytes : Statement → List ℕ → Type 0
 AreBytes (Statement.Instruction i) bytes = AreWords (i ∷ []) bytes
-AreBytes (Statement.System i) bytes =
-    (w : ℕ) × IsSystem w i.row i.fields × (bytes ≡ to_le_bytes w32 w)
+AreBytes (Statement.Layer i) bytes = (w : ℕ) × IsOfLayer w i × (bytes ≡ to_le_bytes w32 w)
 AreBytes (Statement.Pseudo pseudo) bytes = AreWords (expanded pseudo) bytes
 AreBytes (Statement.Data count) bytes = length bytes ≡ count
 AreBytes (Statement.Fill count byte) bytes = bytes ≡ replicate count byte

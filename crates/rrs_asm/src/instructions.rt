@@ -6,6 +6,7 @@ ghost use Rattle.rrs_instruction.specs.Instructions.{row_of};
 ghost use Rattle.rrs_asm.specs.Names.{IsNamed, pseudo_name, branch_name, load_name, store_name};
 ghost use Rattle.rrs_asm.specs.Forms.{form_name, IsRowForm};
 
+use crate::atomic::read_atomic;
 use crate::names::{PseudoForm, pseudo_named};
 use crate::pseudo::{Branch, Load, Pseudo, Store};
 use crate::statements::Statement;
@@ -13,6 +14,7 @@ use crate::system::{read_system, system_named};
 use rrs_asm_lines::{Line, LineError, SourceErrorKind, place_among};
 use rrs_encode::{Operands, instruction_named, with_operands};
 use rrs_instruction::instruction::{Instruction, InstructionFields};
+use rrs_words::atomic_named;
 
 /// How far a branch reaches, in bytes: so many backward, and fewer forward.
 const BRANCH_REACH: u32 = 0x1000;
@@ -46,8 +48,11 @@ pub fn read_instruction(
     if let Some(form) = system_named(name) {
         return Ok(read_system(line, form));
     }
-    match pseudo_named(name) {
-        Some(form) => Ok(Statement::Pseudo(read_pseudo(line, form))),
+    if let Some(form) = pseudo_named(name) {
+        return Ok(Statement::Pseudo(read_pseudo(line, form)));
+    }
+    match atomic_named(name) {
+        Some((row, funct7)) => Ok(read_atomic(line, row, funct7)),
         None if name == b"unimp".as_slice() => Ok(Statement::Unimp),
         None => Err(error),
     }

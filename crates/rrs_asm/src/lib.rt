@@ -16,6 +16,7 @@
 #![tactic(auto)]
 
 mod assembling;
+mod atomic;
 mod directives;
 mod errors;
 mod instructions;

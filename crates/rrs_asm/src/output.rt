@@ -2,7 +2,7 @@
 
 ghost use Rattle.std.specs.Prelude.{◌≡◌, ◌≤◌, ◌+◌, ◌^◌, ℕ, List, [], ◌∷◌, ◌++◌, OnOk, IfOk, length, replicate, take};
 ghost use Rattle.std.specs.Int.{to_le_bytes, w32};
-ghost use Rattle.rrs_words.specs.SystemInstructions.{IsSystem};
+ghost use Rattle.rrs_words.specs.Layers.{IsOfLayer};
 ghost use Rattle.rrs_asm.specs.declared.statements.Statement.{Statement};
 ghost use Rattle.rrs_asm.specs.Statements.{AreWords, AreBytes, AddsPlaced};
 ghost use Rattle.rrs_asm.specs.Pseudo.{listed};
@@ -12,7 +12,7 @@ use crate::statements::Statement;
 use rrs_asm_lines::{Halt, LineError, SourceErrorKind};
 use rrs_encode::encode;
 use rrs_instruction::instruction::Instruction;
-use rrs_words::{SystemInstruction, encode_system};
+use rrs_words::{LayerInstruction, encode_layer};
 use std::alloc::{Allocator, Global};
 
 /// The most bytes that are made of a source: 64 MiB.
@@ -129,7 +129,7 @@ fn append<A: Allocator>(
 {
     match statement {
         Statement::Instruction(instruction) => append_instruction(bytes, instruction),
-        Statement::System(instruction) => append_system(bytes, instruction),
+        Statement::Layer(instruction) => append_layer(bytes, instruction),
         Statement::Pseudo(pseudo) => append_expansion(bytes, &pseudo.expand()),
         Statement::Data(count) => append_data(bytes, given, *count),
         Statement::Fill(count, byte) => append_fill(bytes, *count, *byte),
@@ -137,15 +137,15 @@ fn append<A: Allocator>(
     }
 }
 
-/// Appends the word of an instruction that is no row of the kit, its lowest byte first.
-fn append_system<A: Allocator>(
+/// Appends the word of an instruction of a layer, its lowest byte first.
+fn append_layer<A: Allocator>(
     bytes: &mut Vec<u8, A>,
-    instruction: &SystemInstruction,
+    instruction: &LayerInstruction,
 ) -> Result<(), Halt>
-    ensures { OnOk result ((w : ℕ) × IsSystem w instruction.now.row instruction.now.fields
+    ensures { OnOk result ((w : ℕ) × IsOfLayer w instruction.now
         × (bytes.new.items ≡ bytes.old.items ++ to_le_bytes w32 w)) }
 {
-    match encode_system(instruction) {
+    match encode_layer(instruction) {
         Some(word) => Ok(bytes.extend_from_slice(&word.to_le_bytes())?),
         None => Err(Halt::Error(LineError {
             kind: SourceErrorKind::Range,

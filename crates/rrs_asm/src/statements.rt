@@ -5,15 +5,15 @@ ghost use Rattle.rrs_asm.specs.Statements.{AreBytes};
 
 use crate::pseudo::Pseudo;
 use rrs_instruction::instruction::Instruction;
-use rrs_words::SystemInstruction;
+use rrs_words::LayerInstruction;
 
 /// What a statement of a source puts at its address.
 #[derive(Clone, Copy)]
 pub enum Statement {
     /// An instruction of the table.
     Instruction(Instruction),
-    /// An instruction on a CSR, `mret`, `wfi` or `fence.i`.
-    System(SystemInstruction),
+    /// An instruction of a layer, which is no row of the kit.
+    Layer(LayerInstruction),
     /// One or two instructions.
     Pseudo(Pseudo),
     /// So many bytes of data.
@@ -30,7 +30,7 @@ impl Statement {
         ensures { (own : List ℕ) → AreBytes self.now own → result ≡ length own }
     {
         match self {
-            Statement::Instruction(_) | Statement::System(_) | Statement::Unimp => 4,
+            Statement::Instruction(_) | Statement::Layer(_) | Statement::Unimp => 4,
             Statement::Pseudo(pseudo) => match pseudo.expand().second {
                 None => 4,
                 Some(_) => 8,

@@ -1,5 +1,4 @@
-//! Reading the instructions that are no rows of the kit: those on CSRs, `mret`, `wfi` and
-//! `fence.i`.
+//! Reading the instructions on CSRs, `mret`, `wfi` and `fence.i`.
 
 ghost use Rattle.std.specs.Prelude.{◌≡◌, ◌⊎◌, Bool, true, List, ℕ, IfSome};
 ghost use Rattle.std.specs.List.{list_all};
@@ -8,7 +7,7 @@ ghost use Rattle.rrs_asm.specs.Names.{IsNamed, counter_number, immediate_form, s
 
 use crate::statements::Statement;
 use rrs_asm_lines::Line;
-use rrs_words::{SystemInstruction, SystemRow, csr_named};
+use rrs_words::{LayerInstruction, SystemInstruction, SystemRow, csr_named};
 
 /// A counter that a program reads.
 #[derive(Clone, Copy)]
@@ -21,7 +20,7 @@ pub enum Counter {
     Instreth,
 }
 
-/// An instruction that is no row of the kit, by how its operands are written.
+/// Such an instruction, by how its operands are written.
 #[derive(Clone, Copy)]
 pub enum SystemForm {
     /// It has none.
@@ -87,7 +86,7 @@ fn system_in(table: &[(&[u8], SystemForm)], name: &[u8]) -> Option<SystemForm>
 pub fn read_system(line: &mut Line, form: SystemForm) -> Statement
     ensures { IsNamed (system_form_name form) result }
 {
-    Statement::System(match form {
+    Statement::Layer(LayerInstruction::System(match form {
         SystemForm::Alone(row) => SystemInstruction::alone(row),
         SystemForm::Whole(row) => {
             let rd = line.register();
@@ -104,7 +103,7 @@ pub fn read_system(line: &mut Line, form: SystemForm) -> Statement
             let rd = line.register();
             SystemInstruction::on_csr(SystemRow::Csrrs, rd, number_of(counter), 0)
         }
-    })
+    }))
 }
 
 /// Reads a CSR and an operand: a register, or a number below 32, with which the instruction is that

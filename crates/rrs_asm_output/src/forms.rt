@@ -51,12 +51,16 @@ pub enum Form {
     CsrRead,
     /// A register, into which a counter is read.
     Counter,
+    /// A register and an address in a register.
+    Reserved,
+    /// Two registers and an address in a register.
+    Atomic,
     /// None.
     Alone,
 }
 
 /// The instructions and pseudo-instructions, by their forms.
-pub static NAMES: [(&[u8], Form); 26] = [
+pub static NAMES: [(&[u8], Form); 28] = [
     (
         b"add sub sll slt sltu xor srl sra or and mul mulh mulhsu mulhu div divu rem remu sgt \
             sgtu",
@@ -89,6 +93,18 @@ pub static NAMES: [(&[u8], Form); 26] = [
     (
         b"rdcycle rdtime rdinstret rdcycleh rdtimeh rdinstreth",
         Form::Counter,
+    ),
+    (b"lr.w lr.w.aq lr.w.rl lr.w.aqrl", Form::Reserved),
+    (
+        b"sc.w amoswap.w amoadd.w amoxor.w amoand.w amoor.w amomin.w amomax.w amominu.w \
+            amomaxu.w \
+            sc.w.aq amoswap.w.aq amoadd.w.aq amoxor.w.aq amoand.w.aq amoor.w.aq amomin.w.aq \
+            amomax.w.aq amominu.w.aq amomaxu.w.aq \
+            sc.w.rl amoswap.w.rl amoadd.w.rl amoxor.w.rl amoand.w.rl amoor.w.rl amomin.w.rl \
+            amomax.w.rl amominu.w.rl amomaxu.w.rl \
+            sc.w.aqrl amoswap.w.aqrl amoadd.w.aqrl amoxor.w.aqrl amoand.w.aqrl amoor.w.aqrl \
+            amomin.w.aqrl amomax.w.aqrl amominu.w.aqrl amomaxu.w.aqrl",
+        Form::Atomic,
     ),
 ];
 
@@ -229,6 +245,8 @@ fn operands_of(form: Form) -> &'static str {
         Form::CsrWriteImmediate => " csr, number",
         Form::CsrRead => " rd, csr",
         Form::Counter => " rd",
+        Form::Reserved => " rd, (rs1)",
+        Form::Atomic => " rd, rs2, (rs1)",
         Form::Alone => "",
     }
 }
@@ -242,6 +260,7 @@ pub fn range_of(name: &[u8]) -> &'static str {
             " takes a CSR below 4096, and a number of 0 to 31"
         }
         Some(Form::CsrRead) => " takes a CSR below 4096",
+        Some(Form::Reserved | Form::Atomic) => " takes no offset but 0",
         Some(Form::Load | Form::Store | Form::LinkRegister) => " takes an offset of -2048 to 2047",
         Some(Form::Upper) => " takes 0 to 1048575, the upper 20 bits",
         Some(Form::Branch | Form::ZeroBranch) => " reaches 1048572 bytes back and 1048578 forward",

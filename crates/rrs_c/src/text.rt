@@ -1,7 +1,9 @@
 //! The text of an instruction, in a buffer of C.
 
 ghost use Rattle.std.specs.Prelude.{◌≡◌};
-ghost use Rattle.rrs_c.specs.Buffers.{with_text};
+ghost use Rattle.rrs_c.specs.Buffers.{with_text, PutsLayer};
+
+use rrs_words::{decode_layer, layer_text};
 
 /// Puts a text at the front of a buffer, and a 0 after it, where there is room for both.
 #[inline]
@@ -11,5 +13,20 @@ pub(crate) fn put_text(text: &[u8], buffer: &mut [u8])
     if text.len() < buffer.len() {
         buffer[..text.len()].copy_from_slice(text);
         buffer[text.len()] = 0;
+    }
+}
+
+/// Puts the text of a word that is an instruction of a layer at the front of a buffer, and a 0 after
+/// it, where there is room for both. Returns its length, and 0 for a word that is none.
+pub(crate) fn put_layer(word: u32, buffer: &mut [u8]) -> usize
+    ensures { PutsLayer word buffer.old buffer.new result }
+{
+    match decode_layer(word) {
+        Some(instruction) => {
+            let text = layer_text(&instruction);
+            put_text(text.as_str().as_bytes(), buffer);
+            text.len()
+        }
+        None => 0,
     }
 }

@@ -1,3 +1,4 @@
 -- Lemmas of this crate.
 pub mod SystemRows
 pub mod SystemDecoding
+pub mod AtomicPlaces

@@ -1,11 +1,12 @@
--- The numbers and names of the CSRs of a hart that has machine mode alone (RISC-V privileged
--- specification 1.12, "Control and Status Registers (CSRs)" and "Machine-Level CSRs"; unprivileged
--- specification, "Zicntr"), and the bits that a write of each changes. A bit that is not written
--- reads as at reset, whatever was written: these fields are WARL, and MPP is 3, since there is no
--- other mode.
-use Rattle.std.specs.Prelude.{ℕ, ◌*◌, ◌-◌, ◌+◌, ◌/◌, ◌^◌, ◌==◌, ◌&&◌, nat_le, Bool, if◌then◌else◌, List, [], ◌∷◌, Option, Some, None, codes}
+-- The numbers and names of the CSRs of a hart that has machine mode, alone or with user mode
+-- (RISC-V privileged specification 1.12, "Control and Status Registers (CSRs)" and "Machine-Level
+-- CSRs"; unprivileged specification, "Zicntr"), and the bits that a write of each changes. A bit
+-- that is not written reads as at reset, whatever was written: these fields are WARL. Without user
+-- mode MPP is 3, since there is no other mode.
+use Rattle.std.specs.Prelude.{ℕ, ◌*◌, ◌-◌, ◌+◌, ◌/◌, ◌%◌, ◌^◌, ◌==◌, ◌&&◌, nat_le, Bool, true, false, if◌then◌else◌, List, [], ◌∷◌, Option, Some, None, is_some, codes}
+use Rattle.rrs_words.specs.declared.csrs.Profile.{Profile}
 use Rattle.rrs_words.specs.declared.csrs.Csr.{Csr}
-use Rattle.rrs_words.specs.declared.csrs.Csr.TheVariants.{Mstatus, Mie, Mtvec, Mscratch, Mepc, Mcause, Mtval, Mcountinhibit, Mcycle, Mcycleh, Minstret, Minstreth, Mip, Time, Timeh, Constant}
+use Rattle.rrs_words.specs.declared.csrs.Csr.TheVariants.{Mstatus, Misa, Mie, Mtvec, Mcounteren, Mscratch, Mepc, Mcause, Mtval, Mcountinhibit, Mcycle, Mcycleh, Minstret, Minstreth, Mip, Time, Timeh, Constant}
 use Rattle.rrs_instruction.specs.Words.{word}
 use Rattle.rrs_instruction.specs.Results.{and, or}
 
@@ -15,6 +16,14 @@ both a b = word (and a b)
 
 abbrev pub either : ℕ → ℕ → ℕ
 either a b = word (or a b)
+
+-- ---- the profiles
+
+abbrev pub machine_alone : Profile
+machine_alone = record { atomics = false; user_mode = false }
+
+abbrev pub with_atomics_and_user_mode : Profile
+with_atomics_and_user_mode = record { atomics = true; user_mode = true }
 
 -- ---- the numbers
 
@@ -37,15 +46,23 @@ information_csrs =
     ∷ row 0xf15 (codes "mconfigptr") (Constant 0)
     ∷ []
 
--- "Machine Trap Setup". misa says RV32IM.
+-- "Machine Trap Setup"
 abbrev pub setup_csrs : List CsrRow
 setup_csrs =
     row 0x300 (codes "mstatus") Mstatus
-    ∷ row 0x301 (codes "misa") (Constant 0x40001100)
+    ∷ row 0x301 (codes "misa") Misa
     ∷ row 0x304 (codes "mie") Mie
     ∷ row 0x305 (codes "mtvec") Mtvec
     ∷ row 0x310 (codes "mstatush") (Constant 0)
     ∷ row 0x320 (codes "mcountinhibit") Mcountinhibit
+    ∷ []
+
+-- those that are there where user mode is
+abbrev pub user_mode_csrs : List CsrRow
+user_mode_csrs =
+    row 0x306 (codes "mcounteren") Mcounteren
+    ∷ row 0x30a (codes "menvcfg") (Constant 0)
+    ∷ row 0x31a (codes "menvcfgh") (Constant 0)
     ∷ []
 
 -- "Machine Trap Handling"
@@ -99,12 +116,21 @@ abbrev pub or_else : Option Csr → Option Csr → Option Csr
 or_else None other = other
 or_else (Some csr) other = Some csr
 
+-- one of those that are there where user mode is
+abbrev pub user_mode_csr : Profile → ℕ → Option Csr
+user_mode_csr p n = if p.user_mode then csr_among user_mode_csrs n else None
+
 -- the register with a number: any other number is none
-abbrev pub csr_at : ℕ → Option Csr
-csr_at n =
-    or_else (csr_among setup_csrs n) (or_else (csr_among handling_csrs n)
-    (or_else (csr_among counter_csrs n) (or_else (csr_among reading_csrs n)
-    (or_else (csr_among information_csrs n) (monitor_csr n)))))
+abbrev pub csr_at : Profile → ℕ → Option Csr
+csr_at p n =
+    or_else (csr_among setup_csrs n) (or_else (user_mode_csr p n)
+    (or_else (csr_among handling_csrs n) (or_else (csr_among counter_csrs n)
+    (or_else (csr_among reading_csrs n) (or_else (csr_among information_csrs n)
+    (monitor_csr n))))))
+
+-- a number that is a CSR of some hart
+abbrev pub is_csr : ℕ → Bool
+is_csr n = is_some (csr_at with_atomics_and_user_mode n)
 
 -- a number whose two highest bits are 1 is read only
 abbrev pub is_read_only : ℕ → Bool
@@ -112,31 +138,64 @@ is_read_only n = n / 2 ^ 10 == 3
 
 -- ---- the bits
 
--- The bits that are written, by their places. Of a counter or a cause all are.
-abbrev pub written_bits : Csr → ℕ
--- MIE and MPIE
-written_bits Mstatus = 2 ^ 3 + 2 ^ 7
--- MSIE, MTIE and MEIE
-written_bits Mie = 2 ^ 3 + 2 ^ 7 + 2 ^ 11
--- BASE and, of MODE, the lower bit
-written_bits Mtvec = 2 ^ 32 - 1 - 2 ^ 1
--- all but the two lowest, since instructions are aligned to words
-written_bits Mepc = 2 ^ 32 - 1 - 2 ^ 1 - 2 ^ 0
--- CY and IR
-written_bits Mcountinhibit = 2 ^ 0 + 2 ^ 2
-written_bits Mscratch = 2 ^ 32 - 1
-written_bits Mcause = 2 ^ 32 - 1
-written_bits Mtval = 2 ^ 32 - 1
-written_bits Mcycle = 2 ^ 32 - 1
-written_bits Mcycleh = 2 ^ 32 - 1
-written_bits Minstret = 2 ^ 32 - 1
-written_bits Minstreth = 2 ^ 32 - 1
-written_bits Mip = 0
-written_bits Time = 0
-written_bits Timeh = 0
-written_bits (Constant value) = 0
+-- misa: MXL is 1, for 32 bits, and then the extensions, each at the place of its letter: I and M, A
+-- where there are atomics, and U where there is user mode
+abbrev pub misa_value : Profile → ℕ
+misa_value p =
+    2 ^ 30 + 2 ^ 8 + 2 ^ 12
+    + (if p.atomics then 2 ^ 0 else 0) + (if p.user_mode then 2 ^ 20 else 0)
 
--- the bits that are always 1: MPP is 3
-abbrev pub fixed_bits : Csr → ℕ
-fixed_bits Mstatus = 3 * 2 ^ 11
-fixed_bits _ = 0
+-- of mstatus: MIE and MPIE, and with user mode MPP, MPRV and TW
+abbrev pub status_bits : Profile → ℕ
+status_bits p =
+    2 ^ 3 + 2 ^ 7 + (if p.user_mode then 3 * 2 ^ 11 + 2 ^ 17 + 2 ^ 21 else 0)
+
+-- The bits that are written, by their places. Of a counter or a cause all are.
+abbrev pub written_bits : Profile → Csr → ℕ
+written_bits p Mstatus = status_bits p
+-- MSIE, MTIE and MEIE
+written_bits p Mie = 2 ^ 3 + 2 ^ 7 + 2 ^ 11
+-- BASE and, of MODE, the lower bit
+written_bits p Mtvec = 2 ^ 32 - 1 - 2 ^ 1
+-- CY, TM and IR
+written_bits p Mcounteren = 2 ^ 0 + 2 ^ 1 + 2 ^ 2
+-- all but the two lowest, since instructions are aligned to words
+written_bits p Mepc = 2 ^ 32 - 1 - 2 ^ 1 - 2 ^ 0
+-- CY and IR
+written_bits p Mcountinhibit = 2 ^ 0 + 2 ^ 2
+written_bits p Mscratch = 2 ^ 32 - 1
+written_bits p Mcause = 2 ^ 32 - 1
+written_bits p Mtval = 2 ^ 32 - 1
+written_bits p Mcycle = 2 ^ 32 - 1
+written_bits p Mcycleh = 2 ^ 32 - 1
+written_bits p Minstret = 2 ^ 32 - 1
+written_bits p Minstreth = 2 ^ 32 - 1
+written_bits p Misa = 0
+written_bits p Mip = 0
+written_bits p Time = 0
+written_bits p Timeh = 0
+written_bits p (Constant value) = 0
+
+-- the bits that are always 1: without user mode MPP is 3
+abbrev pub fixed_bits : Profile → Csr → ℕ
+fixed_bits p Mstatus = if p.user_mode then 0 else 3 * 2 ^ 11
+fixed_bits p _ = 0
+
+-- ---- MPP
+
+-- MPP of mstatus is bits 12 and 11
+abbrev pub previous : ℕ → ℕ
+previous status = status / 2 ^ 11 % 2 ^ 2
+
+-- mstatus with another MPP
+abbrev pub with_previous : ℕ → ℕ → ℕ
+with_previous mpp status = status / 2 ^ 13 * 2 ^ 13 + mpp * 2 ^ 11 + status % 2 ^ 11
+
+-- MPP holds 0 and 3, for user and for machine mode. A write of 1 or 2 leaves the old one.
+abbrev pub legal_previous : ℕ → ℕ → ℕ
+legal_previous old new = if new == 0 then 0 else (if new == 3 then 3 else old)
+
+-- the value that a register holds after a write of another, in the bits that are written
+abbrev pub legal : Csr → ℕ → ℕ → ℕ
+legal Mstatus old new = with_previous (legal_previous (previous old) (previous new)) new
+legal _ old new = new

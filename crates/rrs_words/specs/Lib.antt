@@ -1,5 +1,8 @@
 -- The words that the 48 rows leave out: the instructions on CSRs, mret, wfi and fence.i, the
--- numbers and names of the CSRs, and the texts.
+-- numbers and names of the CSRs, the instructions of extension A, and the texts.
 pub mod CsrNumbers
 pub mod SystemInstructions
 pub mod SystemTexts
+pub mod AtomicInstructions
+pub mod AtomicTexts
+pub mod Layers

@@ -1,14 +1,14 @@
 -- The texts of the instructions that the 48 rows leave out (RISC-V unprivileged specification,
 -- "Zicsr" and "Zifencei"; privileged specification 1.12, "Control and Status Registers (CSRs)":
 -- the names). A register is x and its number, as in the texts of the 48 rows. A CSR has its name,
--- and a number that is no CSR of this hart is written in hexadecimal. There is one text for each
+-- and a number that is no CSR of any profile is written in hexadecimal. There is one text for each
 -- instruction: `csrr` and its like are not written.
 use Rattle.std.specs.Prelude.{ℕ, ◌-◌, ◌==◌, ◌++◌, List, [], ◌∷◌, if◌then◌else◌, codes}
 use Rattle.std.specs.Fmt.{decimal}
 use Rattle.rrs_instruction.specs.declared.instruction_formats.IType.{IType}
 use Rattle.rrs_words.specs.declared.instructions.SystemRow.{SystemRow}
 use Rattle.rrs_words.specs.declared.instructions.SystemRow.TheVariants.{Mret, Wfi, FenceI}
-use Rattle.rrs_words.specs.CsrNumbers.{CsrRow, setup_csrs, handling_csrs, counter_csrs, reading_csrs, information_csrs, is_from_to}
+use Rattle.rrs_words.specs.CsrNumbers.{CsrRow, setup_csrs, user_mode_csrs, handling_csrs, counter_csrs, reading_csrs, information_csrs, is_from_to}
 use Rattle.rrs_words.specs.SystemInstructions.{system_table, csr_number, has_immediate}
 use Rattle.rrs_lib.specs.Texts.{hexadecimal, register}
 
@@ -24,12 +24,12 @@ abbrev pub or_else : List ℕ → List ℕ → List ℕ
 or_else [] other = other
 or_else (c ∷ name) other = c ∷ name
 
--- the name in the tables
+-- the name in the tables, whatever the profile
 abbrev pub table_name : ℕ → List ℕ
 table_name n =
-    or_else (name_among setup_csrs n) (or_else (name_among handling_csrs n)
-    (or_else (name_among counter_csrs n) (or_else (name_among reading_csrs n)
-    (name_among information_csrs n))))
+    or_else (name_among setup_csrs n) (or_else (name_among user_mode_csrs n)
+    (or_else (name_among handling_csrs n) (or_else (name_among counter_csrs n)
+    (or_else (name_among reading_csrs n) (name_among information_csrs n)))))
 
 -- mhpmevent3 to 31, mhpmcounter3 to 31, mhpmcounter3h to 31h, or else the number itself
 abbrev pub monitor_name : ℕ → List ℕ

@@ -1,20 +1,72 @@
-//! The control and status registers of a hart that has machine mode alone, by their numbers.
+//! The control and status registers of a hart that has machine mode, by their numbers.
 //!
-//! [Csr::at] finds the register with a number. The table of numbers, and of the bits that are
-//! written, is `specs/CsrNumbers.antt`.
+//! A [Profile] says what a hart has beside RV32IM and machine mode. [Csr::at] finds the register
+//! with a number. The table of numbers, and of the bits that are written, is
+//! `specs/CsrNumbers.antt`.
 
-ghost use Rattle.std.specs.Prelude.{◌≡◌};
-ghost use Rattle.rrs_words.specs.CsrNumbers.{csr_among, setup_csrs, handling_csrs, counter_csrs, reading_csrs, information_csrs, monitor_csr, csr_at, is_read_only, written_bits, fixed_bits};
+ghost use Rattle.std.specs.Prelude.{◌≡◌, ◌<◌};
+ghost use Rattle.rrs_words.specs.CsrNumbers.{machine_alone, with_atomics_and_user_mode, csr_among, setup_csrs, user_mode_csrs, user_mode_csr, handling_csrs, counter_csrs, reading_csrs, information_csrs, monitor_csr, csr_at, is_read_only, misa_value, status_bits, written_bits, fixed_bits, previous, with_previous, legal_previous, legal};
+
+/// What a hart has beside RV32IM, Zicsr, Zifencei, Zicntr and machine mode.
+#[derive(Debug, PartialEq, Clone, Copy)]
+pub struct Profile {
+    /// Whether it has the atomic instructions, extension A.
+    pub atomics: bool,
+    /// Whether it has user mode.
+    pub user_mode: bool,
+}
+
+impl Profile {
+    /// Machine mode alone.
+    pub fn machine_alone() -> Profile
+        ensures { result ≡ machine_alone }
+    {
+        Profile {
+            atomics: false,
+            user_mode: false,
+        }
+    }
+
+    /// Atomic instructions, and user mode beside machine mode.
+    pub fn with_atomics_and_user_mode() -> Profile
+        ensures { result ≡ with_atomics_and_user_mode }
+    {
+        Profile {
+            atomics: true,
+            user_mode: true,
+        }
+    }
+
+    /// What `misa` reads as.
+    pub fn misa(self) -> u32
+        ensures { result ≡ misa_value self }
+    {
+        let atomics = if self.atomics { 1 } else { 0 };
+        let user_mode = if self.user_mode { 0x10_0000 } else { 0 };
+        0x4000_1100 + atomics + user_mode
+    }
+
+    /// The bits of `mstatus` that a write changes.
+    fn status_bits(self) -> u32
+        ensures { result ≡ status_bits self }
+    {
+        if self.user_mode { 0x22_1888 } else { 0x88 }
+    }
+}
 
 /// A register that the number of a CSR names. `mcycle` and `cycle` are one register.
 #[derive(Debug, PartialEq, Clone, Copy)]
 pub enum Csr {
     /// `mstatus`
     Mstatus,
+    /// `misa`, which always reads as the profile says
+    Misa,
     /// `mie`
     Mie,
     /// `mtvec`
     Mtvec,
+    /// `mcounteren`, where user mode is
+    Mcounteren,
     /// `mscratch`
     Mscratch,
     /// `mepc`
@@ -49,11 +101,26 @@ fn setup_csr(number: u32) -> Option<Csr>
 {
     match number {
         0x300 => Some(Csr::Mstatus),
-        0x301 => Some(Csr::Constant(0x4000_1100)),
+        0x301 => Some(Csr::Misa),
         0x304 => Some(Csr::Mie),
         0x305 => Some(Csr::Mtvec),
         0x310 => Some(Csr::Constant(0)),
         0x320 => Some(Csr::Mcountinhibit),
+        _ => None,
+    }
+}
+
+/// The CSRs that are there where user mode is.
+fn user_mode_csr(profile: Profile, number: u32) -> Option<Csr>
+    ensures { result ≡ user_mode_csr profile number }
+{
+    if !profile.user_mode {
+        return None;
+    }
+    match number {
+        0x306 => Some(Csr::Mcounteren),
+        0x30a => Some(Csr::Constant(0)),
+        0x31a => Some(Csr::Constant(0)),
         _ => None,
     }
 }
@@ -127,11 +194,14 @@ fn monitor(number: u32) -> Option<Csr>
 }
 
 impl Csr {
-    /// The register with this number, or `None` where there is none.
-    pub fn at(number: u32) -> Option<Csr>
-        ensures { result ≡ csr_at number }
+    /// The register with this number, or `None` where a hart with this profile has none.
+    pub fn at(profile: Profile, number: u32) -> Option<Csr>
+        ensures { result ≡ csr_at profile number }
     {
         if let Some(csr) = setup_csr(number) {
+            return Some(csr);
+        }
+        if let Some(csr) = user_mode_csr(profile, number) {
             return Some(csr);
         }
         if let Some(csr) = handling_csr(number) {
@@ -150,29 +220,70 @@ impl Csr {
     }
 
     /// The bits that a write changes.
-    pub fn written_bits(self) -> u32
-        ensures { result ≡ written_bits self }
+    pub fn written_bits(self, profile: Profile) -> u32
+        ensures { result ≡ written_bits profile self }
     {
         match self {
-            Csr::Mstatus => 0x88,
+            Csr::Mstatus => profile.status_bits(),
             Csr::Mie => 0x888,
             Csr::Mtvec => 0xffff_fffd,
+            Csr::Mcounteren => 0x7,
             Csr::Mepc => 0xffff_fffc,
             Csr::Mcountinhibit => 0x5,
-            Csr::Mip | Csr::Time | Csr::Timeh | Csr::Constant(_) => 0,
+            Csr::Misa | Csr::Mip | Csr::Time | Csr::Timeh | Csr::Constant(_) => 0,
             _ => 0xffff_ffff,
         }
     }
 
     /// The bits that always read 1.
-    pub fn fixed_bits(self) -> u32
-        ensures { result ≡ fixed_bits self }
+    pub fn fixed_bits(self, profile: Profile) -> u32
+        ensures { result ≡ fixed_bits profile self }
     {
         match self {
-            Csr::Mstatus => 0x1800,
+            Csr::Mstatus if !profile.user_mode => 0x1800,
             _ => 0,
         }
     }
+
+    /// The value that a register holds after a write of another, in the bits that are written: MPP
+    /// of `mstatus` stays as it was where the new one is neither 0 nor 3.
+    pub fn legal(self, old: u32, new: u32) -> u32
+        ensures { result ≡ legal self old new }
+    {
+        match self {
+            Csr::Mstatus => with_previous(legal_previous(previous(old), previous(new)), new),
+            _ => new,
+        }
+    }
+}
+
+/// MPP of `mstatus`.
+pub fn previous(status: u32) -> u32
+    ensures field { result ≡ previous status }
+    ensures low { result < 4 }
+{
+    status / 0x800 % 4
+}
+
+/// What MPP becomes by a write.
+fn legal_previous(old: u32, new: u32) -> u32
+    requires { old < 4 }
+    ensures field { result ≡ legal_previous old new }
+    ensures low { result < 4 }
+{
+    match new {
+        0 => 0,
+        3 => 3,
+        _ => old,
+    }
+}
+
+/// `mstatus` with another MPP.
+fn with_previous(mpp: u32, status: u32) -> u32
+    requires { mpp < 4 }
+    ensures { result ≡ with_previous mpp status }
+{
+    status / 0x2000 * 0x2000 + mpp * 0x800 + status % 0x800
 }
 
 /// Whether a CSR with this number is read only.

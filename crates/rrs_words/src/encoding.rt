@@ -1,8 +1,10 @@
-//! From the instructions that the 48 rows leave out to words.
+//! From the instructions that the 48 rows leave out to words, and so from those of extension A.
 
 ghost use Rattle.std.specs.Prelude.{◌≡◌, ◌↔◌, ◌<◌, ◌^◌, ℕ, Some};
 ghost use Rattle.rrs_words.specs.SystemInstructions.{system_table, IsSystem};
+ghost use Rattle.rrs_words.specs.AtomicInstructions.{IsAtomic};
 
+use crate::atomics::{AtomicInstruction, decode_atomic};
 use crate::instructions::{SystemInstruction, SystemRow, decode_system};
 use rrs_encode::{is_in_range, word_of};
 use rrs_lib::instruction::InstructionFields;
@@ -42,6 +44,36 @@ pub fn encode_system(instruction: &SystemInstruction) -> Option<u32>
     let word = word_of(opcode_of(instruction.row), fields);
     let found = decode_system(word)?;
     if found == *instruction {
+        Some(word)
+    } else {
+        None
+    }
+}
+
+/// The word that the instruction of extension A is, or `None` where no word is.
+///
+/// No word is where a field is out of its range, where funct3 or the upper five bits of funct7 are
+/// not the row's, and where `lr.w` has another rs2 than x0. What `decode_atomic` returned has the
+/// word that was decoded.
+///
+/// # Examples
+///
+/// ```
+/// let fields = RType { funct7: 0, rs2: 12, rs1: 11, funct3: 2, rd: 10 };
+/// let add = AtomicInstruction { row: AtomicRow::AmoAdd, fields };
+/// assert_eq!(rt; encode_atomic(&add), Some(0x00c5_a52f));
+/// ```
+pub fn encode_atomic(instruction: &AtomicInstruction) -> Option<u32>
+    ensures { (w : ℕ) → (result ≡ Some w)
+        ↔ IsAtomic w instruction.now.row instruction.now.fields }
+{
+    let format = InstructionFields::R(instruction.fields);
+    if !is_in_range(format) {
+        return None;
+    }
+    let word = word_of(0x2f, format);
+    let read = decode_atomic(word)?;
+    if read == *instruction {
         Some(word)
     } else {
         None

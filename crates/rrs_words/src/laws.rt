@@ -2,10 +2,14 @@
 
 ghost use Rattle.std.specs.Prelude.{◌≡◌, ℕ, Some, IfSome, IfNone};
 ghost use Rattle.rrs_instruction.specs.declared.instruction_formats.IType.{IType as IFields};
+ghost use Rattle.rrs_instruction.specs.declared.instruction_formats.RType.{RType as RFields};
 ghost use Rattle.rrs_words.specs.declared.instructions.SystemRow.{SystemRow};
+ghost use Rattle.rrs_words.specs.declared.atomics.AtomicRow.{AtomicRow};
 ghost use Rattle.rrs_words.specs.SystemInstructions.{IsSystem};
+ghost use Rattle.rrs_words.specs.AtomicInstructions.{IsAtomic};
 
-use crate::encoding::encode_system;
+use crate::atomics::{AtomicInstruction, decode_atomic};
+use crate::encoding::{encode_atomic, encode_system};
 use crate::instructions::{SystemInstruction, decode_system};
 
 /// The word of an instruction, and what it is decoded to.
@@ -53,4 +57,37 @@ pub fn encode_of_decode(word: u32) -> Option<(SystemInstruction, Option<u32>)>
     let instruction = decode_system(word)?;
     let encoded = encode_system(&instruction);
     Some((instruction, encoded))
+}
+
+/// The word of an instruction of extension A, and what it is decoded to.
+///
+/// The answer is `None` exactly where no word is the instruction. Otherwise it is the word of the
+/// instruction (`word`), and what `decode_atomic` returned for it, which is the instruction again
+/// (`same`).
+pub fn atomic_decode_of_encode(
+    instruction: &AtomicInstruction,
+) -> Option<(u32, Option<AtomicInstruction>)>
+    ensures word { IfSome result
+        (λ both. IsAtomic both.0 instruction.now.row instruction.now.fields) }
+    ensures same { IfSome result (λ both. both.1 ≡ Some instruction.now) }
+    ensures no_word { IfNone result
+        ((w : ℕ) → ¬ IsAtomic w instruction.now.row instruction.now.fields) }
+{
+    let word = encode_atomic(instruction)?;
+    Some((word, decode_atomic(word)))
+}
+
+/// The instruction of extension A that a word is, and what it is encoded to.
+///
+/// The answer is `None` exactly for a word that is none of the eleven. Otherwise it is the
+/// instruction of the word (`instruction`), and what `encode_atomic` returned for it, which is the
+/// word again (`same`).
+pub fn atomic_encode_of_decode(word: u32) -> Option<(AtomicInstruction, Option<u32>)>
+    ensures instruction { IfSome result (λ both. IsAtomic word both.0.row both.0.fields) }
+    ensures same { IfSome result (λ both. both.1 ≡ Some word) }
+    ensures outside { IfNone result ((row : AtomicRow) (f : RFields) → ¬ IsAtomic word row f) }
+{
+    let atomic = decode_atomic(word)?;
+    let encoded = encode_atomic(&atomic);
+    Some((atomic, encoded))
 }

@@ -1,21 +1,30 @@
-//! The words that are no row of the kit: the instructions on CSRs, `mret`, `wfi` and `fence.i`.
+//! The words that are no row of the kit: the instructions on CSRs, `mret`, `wfi` and `fence.i`, and
+//! those of extension A.
 //!
 //! [decode_system] gives the instruction of a word, [encode_system] the word of an instruction, and
-//! [system_text] its text. [laws] has encoding and decoding, the one after the other. [Csr::at] is
-//! the register that the number of a CSR names, and [csr_named] is the number of a name. What the instructions are is written in
-//! `specs/SystemInstructions.antt`, the numbers in `specs/CsrNumbers.antt` and the texts in
-//! `specs/SystemTexts.antt`. Executing is done above, in `rrs_machine`.
+//! [system_text] its text; [decode_atomic] and [encode_atomic] do so for extension A. [laws] has
+//! encoding and decoding, the one after the other. [Csr::at] is the register that the number of a
+//! CSR names on a hart with a [Profile], and [csr_named] is the number of a name. What the
+//! instructions are is written in `specs/SystemInstructions.antt` and
+//! `specs/AtomicInstructions.antt`, the numbers in `specs/CsrNumbers.antt` and the texts in
+//! `specs/SystemTexts.antt`. Executing is done above, in `rrs_machine` and `rrs_atomics`.
 
 #![tactic(auto)]
 
+mod atomic_texts;
+mod atomics;
 pub mod csrs;
 mod encoding;
 mod instructions;
 pub mod laws;
+mod layers;
 mod names;
 mod texts;
 
-pub use csrs::Csr;
-pub use encoding::encode_system;
+pub use atomic_texts::{atomic_named, atomic_text};
+pub use atomics::{AtomicInstruction, AtomicRow, decode_atomic};
+pub use csrs::{Csr, Profile};
+pub use encoding::{encode_atomic, encode_system};
 pub use instructions::{SystemInstruction, SystemRow, decode_system};
-pub use texts::{SystemText, csr_named, system_text};
+pub use layers::{LayerInstruction, decode_layer, encode_layer, layer_text};
+pub use texts::{LayerText, csr_named, system_text};

@@ -1,7 +1,7 @@
 //! The names of CSRs.
 
 ghost use Rattle.std.specs.Prelude.{◌≡◌, ◌≤◌, length};
-ghost use Rattle.rrs_words.specs.CsrNumbers.{setup_csrs, handling_csrs, counter_csrs, reading_csrs, information_csrs};
+ghost use Rattle.rrs_words.specs.CsrNumbers.{setup_csrs, user_mode_csrs, handling_csrs, counter_csrs, reading_csrs, information_csrs};
 ghost use Rattle.rrs_words.specs.SystemTexts.{name_among, or_else as first_of, table_name};
 
 /// The names of the CSRs that set traps up. Empty where there is none, as below.
@@ -16,6 +16,19 @@ fn setup_name(number: u32) -> &'static str
         0x305 => "mtvec",
         0x310 => "mstatush",
         0x320 => "mcountinhibit",
+        _ => "",
+    }
+}
+
+/// Those that are there where user mode is.
+fn user_mode_name(number: u32) -> &'static str
+    ensures name { result.now ≡ name_among user_mode_csrs number }
+    ensures length { length result.now ≤ 13 }
+{
+    match number {
+        0x306 => "mcounteren",
+        0x30a => "menvcfg",
+        0x31a => "menvcfgh",
         _ => "",
     }
 }
@@ -96,6 +109,7 @@ pub(crate) fn table_name(number: u32) -> &'static str
 {
     let behind_counters = or_else(reading_name(number), information_name(number));
     let behind_handling = or_else(counter_name(number), behind_counters);
-    let behind_setup = or_else(handling_name(number), behind_handling);
+    let behind_user_mode = or_else(handling_name(number), behind_handling);
+    let behind_setup = or_else(user_mode_name(number), behind_user_mode);
     or_else(setup_name(number), behind_setup)
 }

@@ -6,14 +6,14 @@
 //! | `csrrwi`, `csrrsi`, `csrrci` | `csrrsi x1, mie, 8`: rd, the CSR and the immediate |
 //! | `mret`, `wfi`, `fence.i` | `mret`: the mnemonic alone |
 
-ghost use Rattle.std.specs.Prelude.{◌≡◌, ◌≢◌, ◌+◌, ◌≤◌, ◌<◌, ◌^◌, ◌++◌, ℕ, IfNone, IfSome, length, codes, is_some, true, IsTrue};
+ghost use Rattle.std.specs.Prelude.{◌≡◌, ◌≢◌, ◌+◌, ◌≤◌, ◌<◌, ◌^◌, ◌++◌, ℕ, IfNone, IfSome, length, codes, true, IsTrue};
 ghost use Rattle.std.specs.Bool.{OnFalse, OnTrue};
 ghost use Rattle.rrs_words.specs.SystemInstructions.{system_table, csr_number};
-ghost use Rattle.rrs_words.specs.CsrNumbers.{csr_at, is_from_to};
+ghost use Rattle.rrs_words.specs.CsrNumbers.{is_csr, is_from_to};
 ghost use Rattle.rrs_words.specs.SystemTexts.{csr_name, monitor_name, operand_text, csr_text, system_text};
 ghost use Rattle.rrs_lib.specs.Texts.{register};
 
-use crate::csrs::Csr;
+use crate::csrs::{Csr, Profile};
 use crate::instructions::{SystemInstruction, SystemRow};
 use crate::names::table_name;
 use arrayvec::ArrayString;
@@ -21,15 +21,15 @@ use itoa::{Buffer, Integer};
 use rrs_lib::disassembly::hexadecimal_digits;
 
 /// The number of bytes of the longest text that any fields have, also such as no word has.
-pub const SYSTEM_TEXT_CAPACITY: usize = 80;
+pub const LAYER_TEXT_CAPACITY: usize = 88;
 
-/// The text of an instruction, which lies in the value itself.
-pub type SystemText = ArrayString<SYSTEM_TEXT_CAPACITY>;
+/// The text of an instruction of a layer, which lies in the value itself.
+pub type LayerText = ArrayString<LAYER_TEXT_CAPACITY>;
 
 /// Appends a number in decimal, and what comes before it.
 #[inline]
-fn push_number<I: Integer>(text: &mut SystemText, before: &str, number: I)
-    requires { length text.old.bytes + length before.now + I.MAX_STR_LEN ≤ SYSTEM_TEXT_CAPACITY }
+pub(crate) fn push_number<I: Integer>(text: &mut LayerText, before: &str, number: I)
+    requires { length text.old.bytes + length before.now + I.MAX_STR_LEN ≤ LAYER_TEXT_CAPACITY }
     ensures bytes { text.new.bytes ≡ text.old.bytes ++ before.now ++ I.text number }
     ensures length { length text.new.bytes
         ≤ length text.old.bytes + length before.now + I.MAX_STR_LEN }
@@ -66,7 +66,7 @@ fn is_from_to(first: u32, last: u32, number: u32) -> bool
 }
 
 /// Appends the name of a CSR that counts nothing, or a number that is no CSR.
-fn push_monitor(text: &mut SystemText, number: u32)
+fn push_monitor(text: &mut LayerText, number: u32)
     requires room { length text.old.bytes ≤ 31 }
     ensures bytes { text.new.bytes ≡ text.old.bytes ++ monitor_name number }
     ensures length { length text.new.bytes ≤ length text.old.bytes + 22 }
@@ -86,7 +86,7 @@ fn push_monitor(text: &mut SystemText, number: u32)
 
 /// Appends a CSR: its name, or its number where it has none.
 #[tactic(auto, unfolding(crate::specs::SystemTexts::csr_name))]
-fn push_csr(text: &mut SystemText, number: u32)
+fn push_csr(text: &mut LayerText, number: u32)
     requires room { length text.old.bytes ≤ 31 }
     ensures bytes { text.new.bytes ≡ text.old.bytes ++ csr_name number }
     ensures length { length text.new.bytes ≤ length text.old.bytes + 22 }
@@ -99,21 +99,21 @@ fn push_csr(text: &mut SystemText, number: u32)
     }
 }
 
-/// Whether there is a CSR with this number, and it has this name.
+/// Whether some hart has a CSR with this number, and it has this name.
 fn is_named(number: u32, name: &[u8]) -> bool
     ensures yes { OnTrue result ((csr_name number ≡ name.now)
-        × (is_some (csr_at number) ≡ true)) }
-    ensures no { OnFalse result (is_some (csr_at number) ≡ true → csr_name number ≢ name.now) }
+        × (is_csr number ≡ true)) }
+    ensures no { OnFalse result (is_csr number ≡ true → csr_name number ≢ name.now) }
 {
-    if Csr::at(number).is_none() {
+    if Csr::at(Profile::with_atomics_and_user_mode(), number).is_none() {
         return false;
     }
-    let mut text = SystemText::new();
+    let mut text = LayerText::new();
     push_csr(&mut text, number);
     text.as_bytes() == name
 }
 
-/// The number of the CSR of this hart that has a name, or `None` where none has it.
+/// The number of the CSR that has a name, or `None` where none has it, whatever the profile.
 ///
 /// # Examples
 ///
@@ -123,9 +123,9 @@ fn is_named(number: u32, name: &[u8]) -> bool
 /// ```
 pub fn csr_named(name: &[u8]) -> Option<u32>
     ensures named { IfSome result (λ number. (csr_name number ≡ name.now)
-        × (is_some (csr_at number) ≡ true)) }
+        × (is_csr number ≡ true)) }
     ensures none { IfNone result ((number : ℕ) → number < 4096
-        → is_some (csr_at number) ≡ true → csr_name number ≢ name.now) }
+        → is_csr number ≡ true → csr_name number ≢ name.now) }
 {
     for number in 0..4096 {
         if is_named(number, name) {
@@ -136,7 +136,7 @@ pub fn csr_named(name: &[u8]) -> Option<u32>
 }
 
 /// Appends the operand of an instruction on a CSR.
-fn push_operand(text: &mut SystemText, instruction: &SystemInstruction)
+fn push_operand(text: &mut LayerText, instruction: &SystemInstruction)
     requires room { length text.old.bytes ≤ 53 }
     ensures { text.new.bytes ≡ text.old.bytes ++ codes ", "
         ++ operand_text instruction.now.row instruction.now.fields.rs1 }
@@ -149,10 +149,10 @@ fn push_operand(text: &mut SystemText, instruction: &SystemInstruction)
 }
 
 /// The text of an instruction on a CSR.
-fn csr_text(instruction: &SystemInstruction) -> SystemText
+fn csr_text(instruction: &SystemInstruction) -> LayerText
     ensures { result.bytes ≡ csr_text instruction.now.row instruction.now.fields }
 {
-    let mut text = SystemText::new();
+    let mut text = LayerText::new();
     text.push_str(mnemonic(instruction.row));
     push_number(&mut text, " x", instruction.fields.rd);
     text.push_str(", ");
@@ -165,7 +165,7 @@ fn csr_text(instruction: &SystemInstruction) -> SystemText
 ///
 /// It is that of `objdump` with `-M numeric,no-aliases`, with the blanks of the texts of the 48
 /// rows: a CSR by its name, and the mnemonic that the instruction has in the table. A number that
-/// is no CSR of this hart is written in hexadecimal; `objdump` has names for some of these.
+/// is no CSR of any profile is written in hexadecimal; `objdump` has names for some of these.
 ///
 /// # Examples
 ///
@@ -174,12 +174,12 @@ fn csr_text(instruction: &SystemInstruction) -> SystemText
 /// let set = SystemInstruction { row: SystemRow::Csrrsi, fields };
 /// assert_eq!(rt; system_text(&set).as_str(), "csrrsi x1, mie, 8");
 /// ```
-pub fn system_text(instruction: &SystemInstruction) -> SystemText
+pub fn system_text(instruction: &SystemInstruction) -> LayerText
     ensures { result.bytes ≡ system_text instruction.now.row instruction.now.fields }
 {
     match instruction.row {
         SystemRow::Mret | SystemRow::Wfi | SystemRow::FenceI => {
-            let mut text = SystemText::new();
+            let mut text = LayerText::new();
             text.push_str(mnemonic(instruction.row));
             text
         }

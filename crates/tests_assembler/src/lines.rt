@@ -60,7 +60,7 @@ static ROWS: [(&str, &[u32]); 48] = [
 ];
 
 /// Pseudo-instructions, and how operands can be written.
-static PSEUDO_INSTRUCTIONS: [(&str, &[u32]); 70] = [
+static PSEUDO_INSTRUCTIONS: [(&str, &[u32]); 73] = [
     ("csrrw a0, mstatus, a1", &[0x30059573]),
     ("csrr a0, mepc", &[0x34102573]),
     ("csrw mtvec, a0", &[0x30551073]),
@@ -75,6 +75,9 @@ static PSEUDO_INSTRUCTIONS: [(&str, &[u32]); 70] = [
     ("rdcycle a0", &[0xc0002573]),
     ("rdinstreth t1", &[0xc8202373]),
     ("csrc mip, t6", &[0x344fb073]),
+    ("lr.w.aq a0, (a1)", &[0x1405a52f]),
+    ("sc.w x0, a2, 0(a1)", &[0x18c5a02f]),
+    ("amomaxu.w.aqrl a0, a2, (1 - 1)(a1)", &[0xe6c5a52f]),
     ("csrrc ra, 4095, sp", &[0xfff130f3]),
     ("rdtime s0", &[0xc0102473]),
     ("nop", &[0x00000013]),

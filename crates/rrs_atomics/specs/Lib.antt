@@ -1,0 +1,2 @@
+-- What the instructions of extension A do.
+pub mod Atomics
