@@ -29,6 +29,7 @@ open import machine-mode.Declared using
   ( CsrFile; Inputs; MachineAnswer; Retired; Waiting; Raised; Interrupted
   ; external·; timer·; software·; time·; mstatus·; mie·; mtvec·; mscratch·; mepc·; mcause·; mtval· )
 open import machine-mode.Csrs using (csr-value; reset-file)
+open import machine-words.CsrNumbers using (machine-alone)
 open import machine-mode.Traps using (exception-code; interrupt-code)
 open import machine-mode.MachineSteps using (MachineState; machine; hart·; csrs·)
 open import questions.Questions
@@ -235,10 +236,10 @@ csr-texts i f = map (λ c → word-text (csr-value c f i))
   (Mstatus ∷ Mie ∷ Mtvec ∷ Mscratch ∷ Mepc ∷ Mcause ∷ Mtval ∷ Mip ∷ [])
 
 file-of : List ℕ → CsrFile
-file-of (mstatus ∷ mie ∷ mtvec ∷ mscratch ∷ mepc ∷ mcause ∷ mtval ∷ []) = record reset-file
+file-of (mstatus ∷ mie ∷ mtvec ∷ mscratch ∷ mepc ∷ mcause ∷ mtval ∷ []) = record (reset-file machine-alone)
   { mstatus· = mstatus ; mie· = mie ; mtvec· = mtvec ; mscratch· = mscratch ; mepc· = mepc
   ; mcause· = mcause ; mtval· = mtval }
-file-of _ = reset-file
+file-of _ = reset-file machine-alone
 
 machine-steps : ℕ → MachineState → List (List ℕ)
 machine-steps zero s = []

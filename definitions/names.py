@@ -47,7 +47,8 @@ def antt_words(text):
     text = re.sub(r"\.(0|1)\b", " ", text)
     text = re.sub(r"λ ([^.]*)\.", r" \1 ", text)
     text = re.sub(r"\{(\w+)\}", r"\1 \1", text)       # `{M}`, which Agda writes as `{M = M}`
-    return words(type_first(text).replace("◌", " ").replace(".", " "))
+    text = re.sub(r'(?<!")\.|\.(?!")', " ", text)       # but not the text "."
+    return words(type_first(text).replace("◌", " "))
 
 
 def agda_words(text):

@@ -17,7 +17,7 @@ const LAYOUT = {
   },
   instruction: { size: 24, row: 0, rd: 4, rs1: 8, rs2: 12, shamt: 16, imm: 20 },
   access: { size: 28, fault: 0, kind: 12, address: 16, bytes: 20, value: 24 },
-  text: { size: 26 },
+  text: { size: 89 },
   elf: { size: 20, refusal: 0, number: 4, other: 8, entry: 12, segments: 16 },
   segment: { size: 24, loaded: 0, address: 4, memorySize: 8, fileSize: 16, flags: 20 },
   loaded: { size: 8, refusal: 0 },
@@ -32,7 +32,7 @@ const LAYOUT = {
   mistake: { size: 32, line: 0, column: 8, text: 16, length: 24 },
   name: { size: 20 },
   csrs: {
-    size: 56, mstatus: 0, mie: 4, mtvec: 8, mscratch: 12, mepc: 16, mcause: 20, mtval: 24,
+    size: 72, mstatus: 0, mie: 4, mtvec: 8, mscratch: 12, mepc: 16, mcause: 20, mtval: 24,
     mcountinhibit: 28, mcycle: 32, minstret: 40,
   },
   outcome: { size: 12 },
@@ -278,7 +278,7 @@ class Kit {
     };
   }
 
-  /** The text of a word at an address, or "" for a word outside the table. */
+  /** The text of a word at an address, or "" for an illegal instruction. */
   disassemble(word, pc) {
     const room = BigInt(LAYOUT.text.size);
     const length = Number(this.exports.rrs_disassemble(word, pc, this.addresses.text, room));

@@ -451,6 +451,7 @@ static rrs_csrs csrs_of(const char **at) {
     c.minstret = number(at);
     expect(at, ",");
     c.trapped = (uint32_t)number(at);
+    c.profile = c.user = c.mcounteren = c.reserved = c.reservation = 0;
     return c;
 }
 

@@ -119,7 +119,7 @@ class _Csrs(ctypes.Structure):
         ),
         ("mcycle", _u64),
         ("minstret", _u64),
-        ("trapped", _u32),
+        *((name, _u32) for name in "trapped profile user mcounteren reserved reservation".split()),
     ]
 
 
@@ -265,7 +265,7 @@ _names = {
     for kind in ("row", "fault", "register", "field")
 }
 
-_TEXT_SIZE = 26
+_TEXT_SIZE = 89
 _NAME_SIZE = 20
 _NO_CAUSE = 0xFFFFFFFF
 
@@ -472,8 +472,8 @@ class CsrAccess(NamedTuple):
 
 class MachineRetired(NamedTuple):
     """What a step of a hart with machine mode retired: the Retired of the instruction; whether one
-    was executed (0 where an interrupt was taken); whether it is the first one of a handler; the mode,
-    3; what mcause has after a trap, or None; and the CsrAccess."""
+    was executed (0 where an interrupt was taken); whether it is the first one of a handler; the mode
+    before it, 3 for machine and 0 for user mode; what mcause has after a trap, or None; and the CsrAccess."""
 
     retired: Retired
     valid: int
@@ -487,7 +487,8 @@ class Csrs:
     """The CSRs of a hart that has machine mode alone, as they are at reset.
 
     Each field of ``rrs_csrs`` is an attribute: ``csrs.mtvec = 0x80000100``. ``trapped`` is no CSR: it
-    is 1 where the latest step took a trap. A copy has CSRs of its own, and the attributes that a
+    is 1 where the latest step took a trap. With ``csrs.profile = 2`` the hart has user mode, and
+    ``user`` is 1 where it is in it. A copy has CSRs of its own, and the attributes that a
     subclass added.
     """
 
@@ -502,6 +503,11 @@ class Csrs:
     mcycle: int
     minstret: int
     trapped: int
+    profile: int
+    user: int
+    mcounteren: int
+    reserved: int
+    reservation: int
 
     def __init__(self) -> None:
         self._csrs = _Csrs()
@@ -509,8 +515,8 @@ class Csrs:
         _csrs_reset(self._pointer)
 
     def read(self, number: int, mip: int = 0, time: int = 0) -> Optional[int]:
-        """The value of the CSR with this number, as an instruction reads it, and None where there is
-        none. ``mip`` and ``time`` are what those CSRs have from outside."""
+        """The value of the CSR with this number, as an instruction in machine mode reads it, and None
+        where there is none. ``mip`` and ``time`` are what those CSRs have from outside."""
         csr = _csr_read(self._pointer, _word_of(number), _word_of(mip), _long_of(time, "time"))
         return csr.value if csr.found else None
 
@@ -1098,8 +1104,8 @@ def decode(word: int) -> Optional[Instruction]:
 
 
 def disassemble(word: int, pc: int = 0) -> Optional[str]:
-    """The text of the instruction that a word is at the address ``pc``, and None for a word outside
-    the table."""
+    """The text of the instruction that a word is at the address ``pc``, and None for an illegal
+    instruction. One above the table, as csrrw and lr.w, has its text too."""
     text = ctypes.create_string_buffer(_TEXT_SIZE)
     length = _disassemble(_word_of(word), _word_of(pc), text, _TEXT_SIZE)
     return text.raw[:length].decode("ascii") if length else None

@@ -657,7 +657,7 @@ class Faces(Counted):
     def test_csrs_begin_at_reset_and_a_copy_shares_nothing(self):
         csrs = rrs.Csrs()
         names = [name for name, _ in rrs._Csrs._fields_]
-        self.assertEqual([getattr(csrs, name) for name in names], [0] * 11)
+        self.assertEqual([getattr(csrs, name) for name in names], [0] * 16)
         csrs.mtvec, csrs.mcycle, csrs.trapped = -1, 2**64 - 1, 1
         self.assertEqual((csrs.read(0x305), csrs.read(0xC80), csrs.read(0x306)),
                          (0xFFFFFFFD, 2**32 - 1, None))
@@ -670,6 +670,15 @@ class Faces(Counted):
             other.mie = 8
             self.assertEqual((other.mie, csrs.mie, csrs.mcycle), (8, 0, 0xFFFFFFFF00000001))
         self.assertIn("mtvec=0xffffffff", repr(csrs))
+
+    def test_csrs_with_user_mode(self):
+        machine, csrs = Machine([0x00000073]), rrs.Csrs()
+        csrs.profile, csrs.user, csrs.mcounteren = 2, 1, -1
+        self.assertEqual((csrs.read(0x301), csrs.read(0x306), csrs.read(0x30A)), (0x40101100, 7, 0))
+        outcome, seen = machine.machine_step(csrs)
+        self.assertEqual((outcome.cause, seen.mode, csrs.user, csrs.profile), (8, 0, 0, 2))
+        self.assertEqual((csrs.write(0x300, 0x1800), csrs.read(0x300)), (True, 0x1800))
+        self.assertEqual((csrs.write(0x300, 0x0800), csrs.read(0x300)), (True, 0x1800))
         machine = Machine([0x13])
         for call in (lambda: setattr(csrs, "mie", 2**32), lambda: setattr(csrs, "mcycle", -1),
                      lambda: csrs.read(2**32), lambda: csrs.write(0, 2**32),

@@ -1,11 +1,12 @@
 #!/usr/bin/env python3
 """A model of a hart with machine mode, written from the RISC-V specifications and not from the code.
 
-It makes the programs that the test `generated_programs` of crates/tests_machine_mode makes, from
-the same numbers, and runs them. What it prints is the table CHECKSUMS of that test.
+It makes the programs that the tests `generated_programs` and `generated_programs_with_user_mode` of
+crates/tests_machine_mode make, from the same numbers, and runs them. What it prints are the tables
+CHECKSUMS and USER_CHECKSUMS of those tests.
 
-usage: model.py                prints the table
-       model.py --check        compares it with the one in the test
+usage: model.py                prints the tables
+       model.py --check        compares them with those in the test
        model.py --self-test    tries the comparison, over tables of fewer programs that are wrong
 
 RV32IM here is what the programs use of it: loads, stores, addi, add, jumps and branches.
@@ -22,6 +23,9 @@ MASK = 0xFFFFFFFF
 
 NUMBERS = [0x300, 0x301, 0x304, 0x305, 0x310, 0x320, 0x340, 0x341, 0x342, 0x343, 0x344, 0xB00,
            0xB02, 0xB80, 0xB82, 0xB03, 0x323, 0xB9F, 0xC00, 0xC01, 0xC02, 0xC81, 0xF14, 0x180]
+
+USER_NUMBERS = [0x300, 0x300, 0x300, 0x301, 0x304, 0x305, 0x306, 0x306, 0x30A, 0x31A, 0x320, 0x340,
+                0x341, 0x342, 0x343, 0x344, 0xB00, 0xB02, 0xC00, 0xC01, 0xC02, 0xC80, 0xC82, 0xF14]
 
 
 class Numbers:
@@ -57,12 +61,12 @@ def j_type(imm, rd):
             | (imm >> 12 & 0xFF) << 12 | rd << 7 | 0x6F)
 
 
-def make_word(numbers):
+def make_word(numbers, csrs):
     """An instruction, of sixteen kinds."""
     kind, a, b, c = (numbers.next() for _ in range(4))
     kind, rd, rs1, imm = kind % 16, a % 8, b % 8, c
     if kind < 5:
-        return i_type(NUMBERS[c % 24], rs1, [1, 2, 3, 5, 6, 7][a // 8 % 6], rd, 0x73)
+        return i_type(csrs[c % 24], rs1, [1, 2, 3, 5, 6, 7][a // 8 % 6], rd, 0x73)
     if kind == 5:
         return i_type(imm % 4096, rs1, 0, rd, 0x13)
     if kind == 6:
@@ -93,7 +97,7 @@ class Trap(Exception):
 
 
 class Hart:
-    """A hart with its CSRs, over words at address 0."""
+    """A hart with its CSRs, over words at address 0. `user` says whether it has user mode."""
 
     # number -> (field, bits that are written)
     HELD = {0x300: ("mstatus", 0x88), 0x304: ("mie", 0x888), 0x305: ("mtvec", MASK & ~2),
@@ -101,11 +105,18 @@ class Hart:
             0x342: ("mcause", MASK), 0x343: ("mtval", MASK)}
     FIXED = {0x300: 0x1800}
     ALWAYS = {0x301: 0x40001100, 0x310: 0, 0xF11: 0, 0xF12: 0, 0xF13: 0, 0xF14: 0, 0xF15: 0}
+    # with user mode
+    USER_HELD = {0x300: ("mstatus", 0x221888), 0x306: ("mcounteren", 7)}
+    USER_ALWAYS = {0x301: 0x40101100, 0x30A: 0, 0x31A: 0}
 
-    def __init__(self, numbers):
-        self.bytes = bytearray()
+    def __init__(self, numbers, user):
+        self.bytes, self.user, self.mode = bytearray(), user, 3
+        self.held = {**self.HELD, **self.USER_HELD} if user else self.HELD
+        self.fixed = {} if user else self.FIXED
+        self.always = {**self.ALWAYS, **self.USER_ALWAYS} if user else self.ALWAYS
         for _ in range(WORDS):
-            self.bytes += make_word(numbers).to_bytes(4, "little")
+            word = make_word(numbers, USER_NUMBERS if user else NUMBERS)
+            self.bytes += word.to_bytes(4, "little")
         self.x = [0] * 32
         for register in range(1, 8):
             high, low = numbers.next(), numbers.next()
@@ -113,16 +124,24 @@ class Hart:
         self.pc = 0
         self.csr = {"mstatus": numbers.next() & 0x88, "mie": numbers.next() & 0x888,
                     "mtvec": numbers.next() % 32 * 4 + numbers.next() % 2, "mscratch": 0,
-                    "mepc": numbers.next() % 32 * 4, "mcause": 0, "mtval": 0, "mcountinhibit": 0}
+                    "mepc": numbers.next() % 32 * 4, "mcause": 0, "mtval": 0, "mcountinhibit": 0,
+                    "mcounteren": 0}
         self.cycle, self.instret = numbers.next() << 20, numbers.next() << 20
+        if user:
+            told = numbers.next()
+            self.mode = 0 if told % 2 == 0 else 3
+            self.csr["mcounteren"] = told >> 1 & 7
+            self.csr["mstatus"] |= (told >> 4 & 1) * 0x1800 | told & 0x220000
         self.mip = self.time = 0
 
     def read_csr(self, number):
-        if number in self.HELD:
-            field, mask = self.HELD[number]
-            return self.csr[field] & mask | self.FIXED.get(number, 0)
-        if number in self.ALWAYS:
-            return self.ALWAYS[number]
+        if self.mode == 0 and (number >> 8 & 3 or not self.csr["mcounteren"] >> (number & 31) & 1):
+            raise LookupError
+        if number in self.held:
+            field, mask = self.held[number]
+            return self.csr[field] & mask | self.fixed.get(number, 0)
+        if number in self.always:
+            return self.always[number]
         if 0x323 <= number <= 0x33F or 3 <= number - 0xB00 < 32 or 3 <= number - 0xB80 < 32:
             return 0
         counters = {0: self.cycle, 1: self.time, 2: self.instret}
@@ -136,8 +155,10 @@ class Hart:
 
     def write_csr(self, number, value):
         """Writes a CSR, and tells which counter it was, if it was one."""
-        if number in self.HELD:
-            field, mask = self.HELD[number]
+        if number in self.held:
+            field, mask = self.held[number]
+            if field == "mstatus" and value >> 11 & 3 in (1, 2):
+                value = value & ~0x1800 | self.csr[field] & 0x1800
             self.csr[field] = value & mask
         elif number in (0xB00, 0xB80):
             self.cycle = (self.cycle & MASK | value << 32 if number & 0x80
@@ -151,8 +172,10 @@ class Hart:
 
     def trap(self, cause, value, interrupt):
         mstatus, mtvec = self.csr["mstatus"], self.csr["mtvec"]
-        self.csr.update(mstatus=(mstatus >> 3 & 1) << 7, mepc=self.pc & ~3 & MASK,
+        kept = mstatus & 0x220000 | self.mode << 11 if self.user else 0
+        self.csr.update(mstatus=(mstatus >> 3 & 1) << 7 | kept, mepc=self.pc & ~3 & MASK,
                         mcause=cause | interrupt << 31, mtval=value)
+        self.mode = 3
         base = mtvec & ~3
         self.pc = (base + 4 * cause if interrupt and mtvec & 1 else base) & MASK
 
@@ -225,16 +248,19 @@ class Hart:
         elif opcode == 0x0F and funct3 < 2:
             pass
         elif word == 0x00000073:
-            raise Trap(11, 0)
+            raise Trap(11 if self.mode == 3 else 8, 0)
         elif word == 0x00100073:
             raise Trap(3, self.pc)
-        elif word == 0x30200073:
+        elif word == 0x30200073 and self.mode == 3:
             mstatus = self.csr["mstatus"]
-            self.csr["mstatus"] = 0x80 | (mstatus >> 7 & 1) << 3
+            if self.user:
+                self.mode = mstatus >> 11 & 3
+            kept = mstatus & 0x220000 if self.mode == 3 else mstatus & 0x200000
+            self.csr["mstatus"] = 0x80 | (mstatus >> 7 & 1) << 3 | (kept if self.user else 0)
             return self.csr["mepc"] & ~3, None
         elif opcode == 0x73 and funct3 % 4:
             return after, self.zicsr(word, rs1, funct3, rd)
-        elif word != 0x10500073:
+        elif word != 0x10500073 or self.mode == 0 and self.csr["mstatus"] & 0x200000:
             raise Trap(2, word)
         if result is not None and rd:
             x[rd] = result & MASK
@@ -243,7 +269,7 @@ class Hart:
     def step(self):
         inhibit = self.csr["mcountinhibit"]
         ready = self.mip & self.csr["mie"]
-        if self.csr["mstatus"] & 8 and ready:
+        if (self.csr["mstatus"] & 8 or self.mode == 0) and ready:
             self.trap(next(code for code in (11, 3, 7) if ready >> code & 1), 0, 1)
             return self.count(inhibit, False, None)
         try:
@@ -272,6 +298,8 @@ class Hart:
         yield from (csr["mcause"], csr["mtval"], csr["mcountinhibit"])
         for counter in (self.cycle, self.instret):
             yield from (counter & MASK, counter >> 32)
+        if self.user:
+            yield from (self.mode, csr["mcounteren"])
         for at in range(0, len(self.bytes), 4):
             yield int.from_bytes(self.bytes[at:at + 4], "little")
 
@@ -313,8 +341,8 @@ def mixed(checksum, value):
     return (checksum ^ value) * 16777619 & MASK
 
 
-def run_program(numbers, checksum):
-    hart = Hart(numbers)
+def run_program(numbers, checksum, user):
+    hart = Hart(numbers, user)
     for time in range(STEPS):
         told = numbers.next()
         hart.mip = (told & 1) << 11 | (told >> 1 & 1) << 3 | (told >> 2 & 1) << 7
@@ -327,11 +355,11 @@ def run_program(numbers, checksum):
     return checksum
 
 
-def checksums():
+def checksums(user):
     for group in range(GROUPS):
         numbers, checksum = Numbers(group + 1), 2166136261
         for _ in range(PROGRAMS):
-            checksum = run_program(numbers, checksum)
+            checksum = run_program(numbers, checksum, user)
         yield checksum
 
 
@@ -339,12 +367,14 @@ def self_test():
     """A table with another number at each place, and one that is cut off, must be seen. Gives the status."""
     global PROGRAMS, TEST
     PROGRAMS, failed = 1, 0
-    right = [f"0x{value:08x}" for value in checksums()]
+    right = [f"0x{value:08x}" for user in (False, True) for value in checksums(user)]
     others = [[*right[:n], "0x00000000", *right[n + 1:]] for n in range(len(right))]
     with tempfile.TemporaryDirectory() as folder:
         TEST = Path(folder) / "generated.rt"
         for table, wanted in ((right, 0), *((other, 1) for other in others), (right[:-1], 1)):
-            TEST.write_text(f"const CHECKSUMS: [u32; 20] = [{', '.join(table)}];", encoding="utf-8")
+            TEST.write_text(f"const CHECKSUMS: [u32; 20] = [{', '.join(table[:GROUPS])}];\n"
+                            f"const USER_CHECKSUMS: [u32; 20] = [{', '.join(table[GROUPS:])}];",
+                            encoding="utf-8")
             failed |= main(["--check"]) != wanted
     print(f"self-test: status {int(failed)}")
     return int(failed)
@@ -353,18 +383,21 @@ def self_test():
 def main(words):
     if words == ["--self-test"]:
         return self_test()
-    table = list(checksums())
+    tables = [list(checksums(user)) for user in (False, True)]
     if words == ["--check"]:
         text = TEST.read_text(encoding="utf-8")
-        found = re.search(r"CHECKSUMS[^=]*= \[(.*?)\]", text, re.S)[1]
-        there = [int(value.replace("_", ""), 16) for value in re.findall(r"0x[0-9a-f_]+", found)]
-        same = there == table
+        found = [re.search(rf"const {name}[^=]*= \[(.*?)\]", text, re.S)[1]
+                 for name in ("CHECKSUMS", "USER_CHECKSUMS")]
+        there = [[int(value.replace("_", ""), 16) for value in re.findall(r"0x[0-9a-f_]+", one)]
+                 for one in found]
+        same = there == tables
         print("the model agrees with the test" if same else "the model and the test differ")
         return 0 if same else 1
     if words:
         sys.exit(__doc__.strip())
-    for value in table:
-        print(f"    0x{value >> 16:04x}_{value & 0xFFFF:04x},")
+    for table in tables:
+        print(*(f"    0x{value >> 16:04x}_{value & 0xFFFF:04x}," for value in table), sep="\n")
+        print()
     return 0
 
 

@@ -14,6 +14,7 @@ use Rattle.rrs_gdb.specs.declared.session.Next.TheVariants.{Reply}
 use Rattle.rrs_gdb.specs.Breaks.{WithBreak, WithoutBreak}
 use Rattle.rrs_gdb.proofs.ChangeLemmas.{error_behind, error_of}
 use Rattle.rrs_gdb.proofs.EntryLemmas.{no_both}
+use Rattle.rrs_words.specs.declared.csrs.Profile.{Profile}
 use Rattle.rrs_words.specs.CsrNumbers.{csr_at}
 use Rattle.rrs_gdb.specs.Packets.{IsPlace, before, behind, address_in, length_in}
 use Rattle.rrs_gdb.specs.Sessions.{letter, BreaksNone, ChangesMemory, ChangesNone, IsBreak, IsError, RunsNone, SetsBytes, SetsMemory, ShowsMemory}
@@ -559,19 +560,19 @@ five_pieces (Err f) t a t1 b t2 c t3 d t4 e t5 b' d' first second is_b third fou
 
 -- ---- the lines of CSRs
 
-pub no_lines : (xs : List ℕ) → xs ≡ xs ++ csr_lines 0
+pub no_lines : (p : Profile) (xs : List ℕ) → xs ≡ xs ++ csr_lines p 0
 unfolding csr_lines
-no_lines xs = sym (append-nil xs)
+no_lines p xs = sym (append-nil xs)
 
-pub one_line : (xs text : List ℕ) (n : ℕ) → is_some (csr_at n) ≡ true → text ≡ (xs ++ csr_lines n) ++ csr_line n
-    → text ≡ xs ++ csr_lines (suc n)
+pub one_line : (p : Profile) (xs text : List ℕ) (n : ℕ) → is_some (csr_at p n) ≡ true
+    → text ≡ (xs ++ csr_lines p n) ++ csr_line n → text ≡ xs ++ csr_lines p (suc n)
 unfolding csr_lines
-one_line xs text n is same = same ∙ append_assoc xs (csr_lines n) (csr_line n) ∙ rw is refl
+one_line p xs text n is same = same ∙ append_assoc xs (csr_lines p n) (csr_line n) ∙ rw is refl
 
-pub other_line : (xs text : List ℕ) (n : ℕ) → is_some (csr_at n) ≡ false → text ≡ xs ++ csr_lines n
-    → text ≡ xs ++ csr_lines (suc n)
+pub other_line : (p : Profile) (xs text : List ℕ) (n : ℕ) → is_some (csr_at p n) ≡ false → text ≡ xs ++ csr_lines p n
+    → text ≡ xs ++ csr_lines p (suc n)
 unfolding csr_lines
-other_line xs text n is same = same ∙ rw is (ap (λ (ys : List ℕ). xs ++ ys) (sym (append-nil (csr_lines n))))
+other_line p xs text n is same = same ∙ rw is (ap (λ (ys : List ℕ). xs ++ ys) (sym (append-nil (csr_lines p n))))
 
 -- a text of which only the end is said
 pub ends_so : {F : Type 0} (r : Result Unit F) (t a t1 b t2 c t3 d t4 lines t5 e t6 : List ℕ)

@@ -7,6 +7,7 @@ use Rattle.rrs_lib.specs.declared.HartState.{HartState}
 use Rattle.rrs_lib.specs.Machine.{State, state_of}
 use Rattle.rrs_memory.specs.Bytes.{ByteMap}
 use Rattle.rrs_words.specs.declared.csrs.Csr.{Csr}
+use Rattle.rrs_words.specs.declared.csrs.Profile.{Profile}
 use Rattle.rrs_words.specs.CsrNumbers.{csr_at, is_read_only}
 use Rattle.rrs_machine.specs.Csrs.{csr_value, csr_written}
 use Rattle.rrs_board.specs.declared.board.Board.{Board}
@@ -30,7 +31,7 @@ abbrev pub shown_register : Board → ℕ → Option ℕ
 shown_register b n =
     if nat_lt n 33
     then Some (register (state_of b.hart (board_bytes b.memory) (board_writable b.memory)) n)
-    else (if nat_lt n 65 then None else csr_shown b (csr_at (n - 65)))
+    else (if nat_lt n 65 then None else csr_shown b (csr_at b.csrs.profile (n - 65)))
 
 -- a CSR is written as an instruction writes it, unless it is read only
 abbrev pub csr_changed : ℕ → Option Csr → ℕ → Board → Option Board
@@ -49,7 +50,8 @@ abbrev pub with_register : Board → ℕ → ℕ → Option Board
 with_register b n value =
     if n == 0 then None
     else (if nat_lt n 33 then Some (record b { hart = hart_changed b.hart n value })
-    else (if nat_lt n 65 then None else csr_changed (n - 65) (csr_at (n - 65)) value b))
+    else (if nat_lt n 65 then None
+    else csr_changed (n - 65) (csr_at b.csrs.profile (n - 65)) value b))
 
 -- ---- RAM
 
@@ -90,7 +92,7 @@ csr_line number =
     ++ codes "\" bitsize=\"32\" type=\"uint32\" regnum=\"" ++ decimal (number + 65)
     ++ codes "\"/>\n"
 
--- the lines of the CSRs with numbers below this
-unfoldable pub csr_lines : ℕ → List ℕ
-csr_lines zero = []
-csr_lines (suc n) = csr_lines n ++ (if is_some (csr_at n) then csr_line n else [])
+-- the lines of the CSRs of a profile with numbers below this
+unfoldable pub csr_lines : Profile → ℕ → List ℕ
+csr_lines p zero = []
+csr_lines p (suc n) = csr_lines p n ++ (if is_some (csr_at p n) then csr_line n else [])

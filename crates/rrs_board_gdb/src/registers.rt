@@ -1,15 +1,14 @@
 //! The registers as gdb has them: x0 to x31, the pc, and, from 65 on, the CSRs by their numbers.
 
-ghost use Rattle.std.specs.Prelude.{◌≡◌, ◌<◌, ◌++◌, false, true, IfOk, MatchOption};
-ghost use Rattle.rrs_gdb.specs.Shown.{text_of, word_bytes};
+ghost use Rattle.std.specs.Prelude.{◌≡◌, ◌<◌, false, true, MatchOption};
+ghost use Rattle.rrs_words.specs.CsrNumbers.{csr_at};
 ghost use Rattle.rrs_board_gdb.specs.Shown.{csr_shown, shown_register, csr_changed, hart_changed, with_register};
 
 use rrs_board::Board;
-use rrs_gdb::{REGISTERS, push_word, register_value};
+use rrs_gdb::{REGISTERS, register_value};
 use rrs_lib::HartState;
 use rrs_machine::Csr;
 use rrs_words::csrs::is_read_only;
-use std::alloc::AllocError;
 
 /// The number that gdb has for the CSR of number 0.
 pub const FIRST_CSR: u32 = 65;
@@ -25,7 +24,7 @@ fn csr_of(board: &Board, csr: Option<Csr>) -> Option<u32>
 }
 
 /// The value of a register by its number, if there is one.
-fn value_of(board: &Board, number: u32) -> Option<u32>
+pub fn value_of(board: &Board, number: u32) -> Option<u32>
     ensures { result ≡ shown_register board.now number }
 {
     if number < REGISTERS {
@@ -34,28 +33,7 @@ fn value_of(board: &Board, number: u32) -> Option<u32>
     if number < FIRST_CSR {
         return None;
     }
-    csr_of(board, Csr::at(number - FIRST_CSR))
-}
-
-/// Appends the text of a register by its number: the value's bytes, the lowest first. It tells
-/// whether there is such a register; where there is none, nothing is appended.
-///
-/// # Errors
-///
-/// Out of memory.
-pub fn show_register(board: &Board, number: u32, text: &mut Vec<u8>) -> Result<bool, AllocError>
-    ensures shown { IfOk result (λ found. MatchOption (shown_register board.now number)
-        ((found ≡ false) × (text.new.items ≡ text.old.items))
-        (λ value. (found ≡ true)
-        × (text.new.items ≡ text.old.items ++ text_of (word_bytes value)))) }
-{
-    match value_of(board, number) {
-        Some(value) => {
-            push_word(text, value)?;
-            Ok(true)
-        }
-        None => Ok(false),
-    }
+    csr_of(board, Csr::at(board.csrs.profile, number - FIRST_CSR))
 }
 
 /// Changes a CSR, if it can be written, as an instruction does.
@@ -71,6 +49,17 @@ fn change_csr(board: &mut Board, number: u32, csr: Option<Csr>, value: u32) -> b
         }
         _ => false,
     }
+}
+
+/// Changes a CSR by its number, if the hart has it and it can be written.
+fn change_numbered(board: &mut Board, number: u32, value: u32) -> bool
+    ensures { MatchOption
+        (csr_changed number (csr_at board.old.csrs.profile number) value board.old)
+        ((result ≡ false) × (board.new ≡ board.old))
+        (λ changed. (result ≡ true) × (board.new ≡ changed)) }
+{
+    let csr = Csr::at(board.csrs.profile, number);
+    change_csr(board, number, csr, value)
 }
 
 /// Changes one of x0 to x31, or, by 32, the pc.
@@ -103,6 +92,5 @@ pub fn change_register(board: &mut Board, number: u32, value: u32) -> bool
     if number < FIRST_CSR {
         return false;
     }
-    let number = number - FIRST_CSR;
-    change_csr(board, number, Csr::at(number), value)
+    change_numbered(board, number - FIRST_CSR, value)
 }

@@ -15,15 +15,17 @@ ghost use Rattle.rrs_board_gdb.specs.Sessions.{Changes, EndsBy, GoesBy, GoesFrom
 
 use crate::going::{DebuggedBoard, GoReason};
 use crate::ram::{change_ram, show_ram};
-use crate::registers::{change_register, show_register};
+use crate::registers::{change_register, value_of};
 use crate::target::push_target;
 use hex::FromHexError;
 use rrs_board::{Asking, Board};
 use rrs_gdb::{
     BAD_ADDRESS, Break, Breaks, INVALID, Link, LinkError, NO_MEMORY, Next, Received,
     address_and_length, answer_of, behind, break_of, cut_or_all, number_of, place_and_bytes,
-    push_bytes, push_done, push_hex, push_part, push_registers, push_text, register_and_value,
+    push_bytes, push_done, push_hex, push_part, push_registers, push_text, push_word,
+    register_and_value,
 };
+use rrs_machine::Profile;
 use std::alloc::{AllocError, Global};
 use std::io::{Read, Write};
 
@@ -107,7 +109,8 @@ fn push_stop(reply: &mut Vec<u8>, stop: BoardStop) -> Result<(), AllocError>
 
 /// Appends that a packet can't be understood, or names nothing that is there.
 fn push_invalid(reply: &mut Vec<u8>) -> Result<(), AllocError>
-    ensures { OnOk result (IsError reply.old.items reply.new.items) }
+    ensures error { OnOk result (IsError reply.old.items reply.new.items) }
+    ensures digits { OnOk result (reply.new.items ≡ reply.old.items ++ codes "E16") }
 {
     push_text(reply, INVALID)
 }
@@ -119,10 +122,10 @@ fn show(board: &Board, reply: &mut Vec<u8>, digits: &[u8]) -> Result<(), AllocEr
     let Some(number) = number_of(digits) else {
         return push_invalid(reply);
     };
-    if show_register(board, number, reply)? {
-        return Ok(());
+    match value_of(board, number) {
+        Some(value) => push_word(reply, value),
+        None => push_invalid(reply),
     }
-    push_invalid(reply)
 }
 
 /// `P`: changes a register, and returns whether it is changed.
@@ -399,14 +402,19 @@ fn remove_stop(breaks: &mut Breaks, text: &[u8]) -> &'static [u8]
     }
 }
 
-/// Answers a packet that begins with `q`.
-fn query(alloc: Global, reply: &mut Vec<u8>, payload: &[u8]) -> Result<(), AllocError>
+/// Answers a packet that begins with `q`, where the hart has this profile.
+fn query(
+    alloc: Global,
+    profile: Profile,
+    reply: &mut Vec<u8>,
+    payload: &[u8],
+) -> Result<(), AllocError>
     ensures { letter payload.now ≡ 113 → OnOk result
         (Tells payload.now reply.old.items reply.new.items) }
 {
     if let Some(place) = behind(payload, b"qXfer:features:read:target.xml:") {
         let mut target = Vec::new(alloc);
-        push_target(alloc, &mut target)?;
+        push_target(profile, alloc, &mut target)?;
         return push_part(reply, &target, place);
     }
     let word = cut_or_all(payload, b':').0;
@@ -443,7 +451,8 @@ fn tell(
     ensures tells { OnOk result (Tells payload.now reply.old.items reply.new.items) }
 {
     if is_question(payload) {
-        return query(alloc, reply, payload);
+        let profile = session.debugged.board.csrs.profile;
+        return query(alloc, profile, reply, payload);
     }
     match payload {
         [b'?'] => push_stop(reply, session.stop),

@@ -6,7 +6,7 @@ ghost use Rattle.rrs_board_gdb.specs.Shown.{csr_in, csr_line, csr_lines};
 use crate::registers::FIRST_CSR;
 use rrs_gdb::{TARGET, cut_or_all, push_text};
 use rrs_lib::instruction_formats::IType;
-use rrs_machine::Csr;
+use rrs_machine::{Csr, Profile};
 use rrs_words::{SystemInstruction, SystemRow, system_text};
 use std::alloc::{AllocError, Global};
 
@@ -53,12 +53,12 @@ fn push_csr(alloc: Global, text: &mut Vec<u8>, number: u16) -> Result<(), AllocE
     push_text(text, b"\"/>\n")
 }
 
-/// Appends the lines of all CSRs, by their numbers.
-fn push_csrs(alloc: Global, text: &mut Vec<u8>) -> Result<(), AllocError>
-    ensures { OnOk result (text.new.items ≡ text.old.items ++ csr_lines 4096) }
+/// Appends the lines of all CSRs of a hart with a profile, by their numbers.
+fn push_csrs(profile: Profile, alloc: Global, text: &mut Vec<u8>) -> Result<(), AllocError>
+    ensures { OnOk result (text.new.items ≡ text.old.items ++ csr_lines profile 4096) }
 {
     for number in 0..0x1000_u16 {
-        if Csr::at(u32::from(number)).is_some() {
+        if Csr::at(profile, u32::from(number)).is_some() {
             push_csr(alloc, text, number)?;
         }
     }
@@ -66,14 +66,15 @@ fn push_csrs(alloc: Global, text: &mut Vec<u8>) -> Result<(), AllocError>
 }
 
 /// Appends the description of the target: that it has no system, the registers that `rrs_gdb` has,
-/// and the CSRs.
+/// and the CSRs
+/// of a hart with a profile.
 ///
 /// # Errors
 ///
 /// Out of memory.
-pub fn push_target(alloc: Global, text: &mut Vec<u8>) -> Result<(), AllocError>
+pub fn push_target(profile: Profile, alloc: Global, text: &mut Vec<u8>) -> Result<(), AllocError>
     ensures { OnOk result ((first : List ℕ) × (text.new.items
-        ≡ text.old.items ++ (first ++ csr_lines 4096 ++ codes "</feature>\n</target>\n"))) }
+        ≡ text.old.items ++ (first ++ csr_lines profile 4096 ++ codes "</feature>\n</target>\n"))) }
 {
     push_text(text, HEAD)?;
     push_text(text, NO_SYSTEM)?;
@@ -83,6 +84,6 @@ pub fn push_target(alloc: Global, text: &mut Vec<u8>) -> Result<(), AllocError>
         registers.strip_suffix(b"</target>\n").unwrap_or(registers),
     )?;
     push_text(text, b"<feature name=\"org.gnu.gdb.riscv.csr\">\n")?;
-    push_csrs(alloc, text)?;
+    push_csrs(profile, alloc, text)?;
     push_text(text, END)
 }

@@ -257,12 +257,13 @@ typedef struct rrs_instruction {
 rrs_instruction rrs_decode(uint32_t word);
 
 /* Room for the text of every word, with the 0 that ends it. */
-#define RRS_TEXT_SIZE 26
+#define RRS_TEXT_SIZE 89
 
 /* Writes the text of the instruction that a word is at the address `pc`, and a 0 after it, as
  * "addi x1, x2, -3", where the `size` bytes at `text` have room for both, and else nothing. Returns
  * the length of the text without the 0, whether it had room or not: at most RRS_TEXT_SIZE - 1, and
- * 0 for an illegal instruction. What follows the 0 in the buffer is left as it was. */
+ * 0 for an illegal instruction. An instruction above the table, as csrrw and lr.w, has its text too.
+ * What follows the 0 in the buffer is left as it was. */
 size_t rrs_disassemble(uint32_t word, uint32_t pc, char *text, size_t size);
 
 /* Room for every name below, with the 0 that ends it. */
@@ -337,12 +338,14 @@ rrs_fault rrs_step_noted(rrs_hart *hart, uint32_t *words, size_t count, uint32_t
 void rrs_undo(rrs_hart *hart, uint32_t *words, size_t count, uint32_t base,
               const rrs_change *change);
 
-/* The CSRs of a hart that has machine mode alone: RV32IM with Zicsr, Zifencei and Zicntr, by the
- * privileged specification 1.12. docs/MACHINE.md of the kit has the table of the CSRs. {0}, which
- * rrs_csrs_reset gives too, is what they are at reset. A bit that is not written has no meaning
- * here: rrs_csr_read gives it as it always is. */
+/* The CSRs of a hart that has machine mode, alone or with user mode: RV32IM with Zicsr, Zifencei and
+ * Zicntr, by the privileged specification 1.12. docs/MACHINE.md of the kit has the table of the CSRs.
+ * {0}, which rrs_csrs_reset gives too, is a hart with machine mode alone at reset; one with more has
+ * its bits in profile. A bit that is not written has no meaning here: rrs_csr_read gives it as it
+ * always is. */
 typedef struct rrs_csrs {
-    uint32_t mstatus;       /* MIE is bit 3 and MPIE bit 7. MPP always reads 3. */
+    uint32_t mstatus;       /* MIE is bit 3 and MPIE bit 7. With user mode MPP is bits 12 and 11,
+                             * MPRV bit 17 and TW bit 21; without it MPP always reads 3. */
     uint32_t mie;           /* MSIE is bit 3, MTIE bit 7 and MEIE bit 11. */
     uint32_t mtvec;         /* The base of the handlers, and in bit 0 whether it is vectored. */
     uint32_t mscratch;      /* A word for the handler. */
@@ -354,9 +357,15 @@ typedef struct rrs_csrs {
     uint64_t minstret;      /* The instructions that retired. */
     uint32_t trapped;       /* 1 where the latest step took a trap, else 0. No CSR: the next
                              * instruction is the first of a handler. Any other number is as 0. */
+    uint32_t profile;       /* What the hart has, no CSR: bit 1 is user mode. No call changes it. */
+    uint32_t user;          /* 1 in user mode, any other number in machine mode. No CSR. Without user
+                             * mode it is machine mode, whatever stands here. */
+    uint32_t mcounteren;    /* CY, TM and IR, bits 0 to 2, show the counters to user mode. */
+    uint32_t reserved;      /* 1 where an address is reserved, any other number where none is. */
+    uint32_t reservation;   /* The address that is reserved. No instruction here reserves one. */
 } rrs_csrs;
 
-/* Makes the CSRs those of a hart at reset. */
+/* Makes the CSRs those of a hart with machine mode alone, at reset. */
 void rrs_csrs_reset(rrs_csrs *csrs);
 
 /* How a step of a hart with machine mode ended. */
@@ -381,7 +390,7 @@ typedef struct rrs_machine_retired {
     rrs_retired retired; /* As rrs_step_rvfi has it. */
     uint32_t valid;      /* 1 where an instruction was executed, 0 where an interrupt was taken. */
     uint32_t intr;       /* 1 where it is the first instruction of a handler, else 0. */
-    uint32_t mode;       /* 3: machine mode. */
+    uint32_t mode;       /* The mode before the step: 3 is machine mode, and 0 user mode. */
     uint32_t trapped;    /* 1 where the step took a trap, an exception or an interrupt, else 0. */
     uint32_t cause;      /* What mcause has after the trap, or 0. */
     uint32_t csr_addr;   /* The number of the CSR that an instruction read or wrote, or 0. */
@@ -393,8 +402,8 @@ typedef struct rrs_machine_retired {
 
 /* Makes a step of a hart with machine mode, and says in *retired what it retired, under the number
  * `order`. An interrupt is taken where its bit is set in `mip` (MSIP is bit 3, MTIP bit 7, MEIP bit
- * 11; no other is looked at), mie enables it and MIE is 1. Else the instruction at the pc is
- * executed, one on a CSR, mret, wfi and fence.i among them, and where it raises an exception the
+ * 11; no other is looked at), mie enables it, and MIE is 1 or the hart is in user mode. Else the
+ * instruction at the pc is executed, one on a CSR, mret, wfi and fence.i among them, and where it raises an exception the
  * hart goes to the handler. A jump to an address that is no multiple of 4 raises its exception
  * itself. `time` is what the CSRs time and timeh read. A load or a store past the words is an access
  * fault. */
@@ -408,11 +417,11 @@ typedef struct rrs_csr {
     uint32_t value; /* Its value, or 0. */
 } rrs_csr;
 
-/* The value of the CSR with this number, as an instruction reads it. */
+/* The value of the CSR with this number, as an instruction in machine mode reads it. */
 rrs_csr rrs_csr_read(const rrs_csrs *csrs, uint32_t number, uint32_t mip, uint64_t time);
 
-/* Writes the CSR with this number as an instruction does: the bits that a write does not change
- * stay. Returns 1, or 0 where there is no such CSR or it is read only, and then nothing changes. */
+/* Writes the CSR with this number as an instruction in machine mode does: the bits that a write does
+ * not change stay. Returns 1, or 0 where there is no such CSR or it is read only, and then nothing changes. */
 uint32_t rrs_csr_write(rrs_csrs *csrs, uint32_t number, uint32_t value);
 
 /* An executable in the ELF format: the bytes of its file, which each function reads anew. It is
@@ -642,7 +651,7 @@ RRS_ASSERT(change_value, offsetof(rrs_change, value) == 12);
 RRS_ASSERT(change_address, offsetof(rrs_change, address) == 16);
 RRS_ASSERT(change_size, offsetof(rrs_change, size) == 20);
 RRS_ASSERT(change_bytes, offsetof(rrs_change, bytes) == 24);
-RRS_ASSERT(size_of_csrs, sizeof(rrs_csrs) == 56);
+RRS_ASSERT(size_of_csrs, sizeof(rrs_csrs) == 72);
 RRS_ASSERT(csrs_mstatus, offsetof(rrs_csrs, mstatus) == 0);
 RRS_ASSERT(csrs_mie, offsetof(rrs_csrs, mie) == 4);
 RRS_ASSERT(csrs_mtvec, offsetof(rrs_csrs, mtvec) == 8);
@@ -654,6 +663,11 @@ RRS_ASSERT(csrs_mcountinhibit, offsetof(rrs_csrs, mcountinhibit) == 28);
 RRS_ASSERT(csrs_mcycle, offsetof(rrs_csrs, mcycle) == 32);
 RRS_ASSERT(csrs_minstret, offsetof(rrs_csrs, minstret) == 40);
 RRS_ASSERT(csrs_trapped, offsetof(rrs_csrs, trapped) == 48);
+RRS_ASSERT(csrs_profile, offsetof(rrs_csrs, profile) == 52);
+RRS_ASSERT(csrs_user, offsetof(rrs_csrs, user) == 56);
+RRS_ASSERT(csrs_mcounteren, offsetof(rrs_csrs, mcounteren) == 60);
+RRS_ASSERT(csrs_reserved, offsetof(rrs_csrs, reserved) == 64);
+RRS_ASSERT(csrs_reservation, offsetof(rrs_csrs, reservation) == 68);
 RRS_ASSERT(size_of_outcome, sizeof(rrs_outcome) == 12);
 RRS_ASSERT(outcome_kind, offsetof(rrs_outcome, kind) == 0);
 RRS_ASSERT(outcome_cause, offsetof(rrs_outcome, cause) == 4);

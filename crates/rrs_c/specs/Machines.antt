@@ -6,9 +6,12 @@ use Rattle.std.specs.Prelude.{◌≡◌, ◌<◌, ℕ, ◌+◌, ◌^◌, ◌==�
 use Rattle.rrs_lib.specs.Words.{bit}
 use Rattle.rrs_machine.specs.declared.csrs.CsrFile.{CsrFile}
 use Rattle.rrs_words.specs.declared.csrs.Csr.{Csr}
+use Rattle.rrs_words.specs.declared.csrs.Profile.{Profile}
+use Rattle.rrs_machine.specs.declared.csrs.Mode.{Mode}
+use Rattle.rrs_machine.specs.declared.csrs.Mode.TheVariants.{User, Machine}
 use Rattle.rrs_machine.specs.declared.csrs.Inputs.{Inputs}
 use Rattle.rrs_machine.specs.declared.traps.Exception.{Exception}
-use Rattle.rrs_machine.specs.declared.traps.Exception.TheVariants.{InstructionMisaligned, InstructionFault, IllegalInstruction, Breakpoint, LoadMisaligned, LoadFault, StoreMisaligned, StoreFault, EnvironmentCall}
+use Rattle.rrs_machine.specs.declared.traps.Exception.TheVariants.{InstructionMisaligned, InstructionFault, IllegalInstruction, Breakpoint, LoadMisaligned, LoadFault, StoreMisaligned, StoreFault, UserEnvironmentCall, EnvironmentCall}
 use Rattle.rrs_machine.specs.declared.traps.Interrupt.{Interrupt}
 use Rattle.rrs_machine.specs.declared.traps.Interrupt.TheVariants.{External, Software, Timer}
 use Rattle.rrs_machine.specs.declared.machine.MachineAnswer.{MachineAnswer}
@@ -29,12 +32,25 @@ use Rattle.rrs_c.specs.Records.{retired_in, IsRecord}
 
 -- ---- the machine
 
+-- bit 0 of a profile is extension A, and bit 1 user mode
+abbrev pub profile_in : ℕ → Profile
+profile_in bits = record { atomics = bit bits 0 == 1; user_mode = bit bits 1 == 1 }
+
+abbrev pub mode_in : ℕ → Mode
+mode_in user = if user == 1 then User else Machine
+
+abbrev pub reservation_in : ℕ → ℕ → Option ℕ
+reservation_in reserved address = if reserved == 1 then Some address else None
+
 -- the CSRs that those of C are
 abbrev pub csrs_in : RrsCsrs → CsrFile
 csrs_in c = record {
+  profile = profile_in c.profile;
+  mode = mode_in c.user;
   mstatus = c.mstatus;
   mie = c.mie;
   mtvec = c.mtvec;
+  mcounteren = c.mcounteren;
   mscratch = c.mscratch;
   mepc = c.mepc;
   mcause = c.mcause;
@@ -42,6 +58,7 @@ csrs_in c = record {
   mcountinhibit = c.mcountinhibit;
   mcycle = c.mcycle;
   minstret = c.minstret;
+  reservation = reservation_in c.reserved c.reservation;
 }
 
 -- the state of a C hart with its CSRs, and words from a base on
@@ -69,7 +86,8 @@ exception_at code value =
     (if code == 4 then LoadMisaligned value else
     (if code == 5 then LoadFault value else
     (if code == 6 then StoreMisaligned value else
-    (if code == 7 then StoreFault value else EnvironmentCall)))))))
+    (if code == 7 then StoreFault value else
+    (if code == 8 then UserEnvironmentCall else EnvironmentCall))))))))
 
 -- the interrupt of a cause
 abbrev pub interrupt_at : ℕ → Interrupt
@@ -135,8 +153,8 @@ csr_told None f i = record { found = 0; value = 0 }
 csr_told (Some csr) f i = record { found = 1; value = csr_value csr f i }
 
 -- the CSR that a number writes: none where there is none, or it is read only
-abbrev pub csr_to_write : ℕ → Option Csr
-csr_to_write number = if is_read_only number then None else csr_at number
+abbrev pub csr_to_write : Profile → ℕ → Option Csr
+csr_to_write p number = if is_read_only number then None else csr_at p number
 
 -- the CSRs after a write, which changes the bits that are written, as that of an instruction
 abbrev pub file_after : Option Csr → ℕ → CsrFile → CsrFile

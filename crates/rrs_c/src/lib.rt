@@ -49,12 +49,12 @@ ghost use Rattle.rrs_elf.specs.Refusals.{first_refusal, checks};
 ghost use Rattle.rrs_elf.specs.declared.errors.ElfError.{ElfError};
 ghost use Rattle.rrs_c.specs.Elf.{accepted_elf, refused_elf, SegmentIn, LoadsElf, FindsFunction};
 ghost use Rattle.rrs_c.specs.Comparing.{first_different, record_fields};
-ghost use Rattle.rrs_words.specs.CsrNumbers.{csr_at};
+ghost use Rattle.rrs_words.specs.CsrNumbers.{csr_at, machine_alone};
 ghost use Rattle.rrs_machine.specs.Csrs.{reset_file};
 ghost use Rattle.rrs_machine.specs.MachineSteps.{MachineStep, IsOnlyMachineStep};
 ghost use Rattle.rrs_machine.specs.MachineRecords.{MachineRetires};
 ghost use Rattle.rrs_history.specs.Changes.{undone};
-ghost use Rattle.rrs_c.specs.Machines.{csrs_in, machine_in_c, inputs_in, machine_answer, IsOutcome, machine_retired_in, IsMachineRecord, csr_told, csr_to_write, file_after, was_written};
+ghost use Rattle.rrs_c.specs.Machines.{profile_in, csrs_in, machine_in_c, inputs_in, machine_answer, IsOutcome, machine_retired_in, IsMachineRecord, csr_told, csr_to_write, file_after, was_written};
 ghost use Rattle.rrs_c.specs.Undoing.{change_in, IsChange};
 ghost use Rattle.rrs_lent.specs.Heaps.{IsBack};
 ghost use Rattle.rrs_lent.specs.Rooms.{place_of, room_size};
@@ -93,7 +93,7 @@ use rrs_lib::memories::SliceMemory;
 use rrs_machine::CsrFile;
 use rrs_trace::{complete_parts, request_parts};
 use std::alloc::Allocator;
-use text::put_text;
+use text::{put_layer, put_text};
 use undoing::{RrsChange, change_from, change_of};
 
 /// The version of this interface, 65536 times the major number plus 256 times the minor one plus
@@ -354,10 +354,11 @@ pub extern "C" fn rrs_undo(hart: &mut RrsHart, words: &mut [u32], base: u32, cha
     hart.last = number_of(before);
 }
 
-/// Makes the CSRs those of a hart at reset.
+/// Makes the CSRs those of a hart with machine mode alone, at reset. A caller that wants more sets
+/// `profile` after it.
 #[unsafe(no_mangle)]
 pub extern "C" fn rrs_csrs_reset(csrs: &mut RrsCsrs)
-    ensures reset { csrs_in csrs.new ≡ reset_file }
+    ensures reset { csrs_in csrs.new ≡ reset_file machine_alone }
     ensures trapped { csrs.new.trapped ≡ 0 }
 {
     *csrs = csrs_of(&CsrFile::new(), 0);
@@ -412,20 +413,24 @@ pub extern "C" fn rrs_machine_step(
     outcome_of(answer)
 }
 
-/// The value of the CSR with this number, as an instruction reads it, where there is one.
+/// The value of the CSR with this number, as an instruction in machine mode reads it, where there
+/// is one.
 #[unsafe(no_mangle)]
 pub extern "C" fn rrs_csr_read(csrs: &RrsCsrs, number: u32, mip: u32, time: u64) -> RrsCsr
-    ensures { result ≡ csr_told (csr_at number) (csrs_in csrs.now) (inputs_in mip time) }
+    ensures { result ≡ csr_told (csr_at (profile_in csrs.now.profile) number) (csrs_in csrs.now)
+        (inputs_in mip time) }
 {
     csr_read(csrs, number, &inputs_of(mip, time))
 }
 
-/// Writes the CSR with this number, as an instruction does: the bits that are not written stay.
+/// Writes the CSR with this number, as an instruction in machine mode does: the bits that are not
+/// written stay.
 /// Returns 1, or 0 where there is no such CSR or it is read only, and then nothing changes.
 #[unsafe(no_mangle)]
 pub extern "C" fn rrs_csr_write(csrs: &mut RrsCsrs, number: u32, value: u32) -> u32
-    ensures written { csrs_in csrs.new ≡ file_after (csr_to_write number) value (csrs_in csrs.old) }
-    ensures told { result ≡ was_written (csr_to_write number) }
+    ensures written { csrs_in csrs.new
+        ≡ file_after (csr_to_write (profile_in csrs.old.profile) number) value (csrs_in csrs.old) }
+    ensures told { result ≡ was_written (csr_to_write (profile_in csrs.old.profile) number) }
     ensures trapped_kept { csrs.new.trapped ≡ csrs.old.trapped }
 {
     csr_write(csrs, number, value)
@@ -445,14 +450,15 @@ pub extern "C" fn rrs_decode(word: u32) -> RrsInstruction
 }
 
 /// Writes the text of the instruction that a word is at an address, and a 0 after it, where the
-/// buffer has room for both. Returns the length of the text without the 0, at most 25, whether it
-/// had room or not, and 0 for an illegal instruction.
+/// buffer has room for both. Returns the length of the text without the 0, at most 88, whether it
+/// had room or not, and 0 for an illegal instruction. An instruction of a layer, as `csrrw` or
+/// `lr.w`, has its text too.
 #[unsafe(no_mangle)]
 pub extern "C" fn rrs_disassemble(word: u32, pc: u32, buffer: &mut [u8]) -> usize
     ensures { Disassembles word pc buffer.old buffer.new result }
 {
     let Some(instruction) = decode(word) else {
-        return 0;
+        return put_layer(word, buffer);
     };
     let text = Disassembled { instruction, pc }.text();
     put_text(text.as_str().as_bytes(), buffer);

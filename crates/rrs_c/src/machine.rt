@@ -3,17 +3,20 @@
 ghost use Rattle.std.specs.Prelude.{◌≡◌, ℕ, Some, None, ◌==◌, if◌then◌else◌, Option};
 ghost use Rattle.rrs_trace.specs.Retired.{HasRegisterNumbers};
 ghost use Rattle.rrs_words.specs.CsrNumbers.{csr_at};
-ghost use Rattle.rrs_c.specs.Machines.{csrs_in, inputs_in, machine_answer, IsOutcome, machine_retired_in, IsMachineRecord, csr_told, csr_to_write, file_after, was_written};
+ghost use Rattle.rrs_c.specs.Machines.{profile_in, mode_in, reservation_in, csrs_in, inputs_in, machine_answer, IsOutcome, machine_retired_in, IsMachineRecord, csr_told, csr_to_write, file_after, was_written};
 
 use crate::retired::{RrsRetired, flag, word_and_flag, written_out};
-use rrs_machine::{Csr, CsrFile, Exception, Inputs, Interrupt, MachineAnswer, MachineRetired};
+use rrs_machine::{
+    Csr, CsrFile, Exception, Inputs, Interrupt, MachineAnswer, MachineRetired, Mode, Profile,
+};
 use rrs_words::csrs::is_read_only;
 
-/// The CSRs of a hart, owned by the caller. All 0 is what they are at reset.
+/// The CSRs of a hart, owned by the caller. All 0 is a hart with machine mode alone, at reset.
 #[repr(C)]
 #[derive(Drop)]
 pub struct RrsCsrs {
-    /// `mstatus`: MIE is bit 3 and MPIE bit 7. MPP always reads 3.
+    /// `mstatus`: MIE is bit 3 and MPIE bit 7. With user mode MPP is bits 12 and 11, MPRV bit 17 and
+    /// TW bit 21; without it MPP always reads 3.
     pub mstatus: u32,
     /// `mie`.
     pub mie: u32,
@@ -35,6 +38,17 @@ pub struct RrsCsrs {
     pub minstret: u64,
     /// 1 where the latest step took a trap: the next instruction is the first of a handler.
     pub trapped: u32,
+    /// What the hart has: bit 1 is user mode. No call changes it.
+    pub profile: u32,
+    /// 1 where the hart is in user mode, any other in machine mode. Without user mode it is machine
+    /// mode, whatever stands here.
+    pub user: u32,
+    /// `mcounteren`.
+    pub mcounteren: u32,
+    /// 1 where an address is reserved.
+    pub reserved: u32,
+    /// The address that is reserved.
+    pub reservation: u32,
 }
 
 /// How a step of a hart with machine mode ended.
@@ -70,7 +84,7 @@ pub struct RrsMachineRetired {
     pub valid: u32,
     /// 1 where it is the first instruction of a handler, else 0.
     pub intr: u32,
-    /// The privilege mode: 3.
+    /// The privilege mode before the step: 3 is machine mode, and 0 user mode.
     pub mode: u32,
     /// 1 where the step took a trap, an exception or an interrupt, else 0.
     pub trapped: u32,
@@ -88,15 +102,69 @@ pub struct RrsMachineRetired {
     pub csr_wdata: u32,
 }
 
+/// The profile of two bits.
+#[inline]
+fn profile_of(bits: u32) -> Profile
+    ensures { result ≡ profile_in bits }
+{
+    Profile {
+        atomics: bits % 2 == 1,
+        user_mode: bits / 2 % 2 == 1,
+    }
+}
+
+/// The bits of a profile.
+#[inline]
+fn profile_bits(profile: Profile) -> u32
+    ensures { profile_in result ≡ profile }
+{
+    match (profile.atomics, profile.user_mode) {
+        (false, false) => 0,
+        (true, false) => 1,
+        (false, true) => 2,
+        (true, true) => 3,
+    }
+}
+
+/// The mode, by whether it is user mode.
+#[inline]
+fn mode_of(user: u32) -> Mode
+    ensures { result ≡ mode_in user }
+{
+    if user == 1 { Mode::User } else { Mode::Machine }
+}
+
+/// 1 where it is user mode, else 0.
+#[inline]
+fn user_of(mode: Mode) -> u32
+    ensures { mode_in result ≡ mode }
+{
+    match mode {
+        Mode::User => 1,
+        Mode::Machine => 0,
+    }
+}
+
+/// The address that is reserved, if one is.
+#[inline]
+fn reservation_of(reserved: u32, address: u32) -> Option<u32>
+    ensures { result ≡ reservation_in reserved address }
+{
+    if reserved == 1 { Some(address) } else { None }
+}
+
 /// The kit's CSRs that those of C are.
 #[inline]
 pub(crate) fn file_of(csrs: &RrsCsrs) -> CsrFile
     ensures { result ≡ csrs_in csrs.now }
 {
     CsrFile {
+        profile: profile_of(csrs.profile),
+        mode: mode_of(csrs.user),
         mstatus: csrs.mstatus,
         mie: csrs.mie,
         mtvec: csrs.mtvec,
+        mcounteren: csrs.mcounteren,
         mscratch: csrs.mscratch,
         mepc: csrs.mepc,
         mcause: csrs.mcause,
@@ -104,6 +172,7 @@ pub(crate) fn file_of(csrs: &RrsCsrs) -> CsrFile
         mcountinhibit: csrs.mcountinhibit,
         mcycle: csrs.mcycle,
         minstret: csrs.minstret,
+        reservation: reservation_of(csrs.reserved, csrs.reservation),
     }
 }
 
@@ -113,6 +182,7 @@ pub(crate) fn csrs_of(file: &CsrFile, trapped: u32) -> RrsCsrs
     ensures same { csrs_in result ≡ file.now }
     ensures trapped { result.trapped ≡ trapped }
 {
+    let (reservation, reserved) = word_and_flag(file.reservation);
     RrsCsrs {
         mstatus: file.mstatus,
         mie: file.mie,
@@ -125,6 +195,11 @@ pub(crate) fn csrs_of(file: &CsrFile, trapped: u32) -> RrsCsrs
         mcycle: file.mcycle,
         minstret: file.minstret,
         trapped,
+        profile: profile_bits(file.profile),
+        user: user_of(file.mode),
+        mcounteren: file.mcounteren,
+        reserved,
+        reservation,
     }
 }
 
@@ -215,9 +290,10 @@ pub(crate) fn machine_written_out(record: &MachineRetired) -> RrsMachineRetired
 
 /// The CSR with this number, and its value.
 pub(crate) fn csr_read(csrs: &RrsCsrs, number: u32, inputs: &Inputs) -> RrsCsr
-    ensures { result ≡ csr_told (csr_at number) (csrs_in csrs.now) inputs.now }
+    ensures { result
+        ≡ csr_told (csr_at (profile_in csrs.now.profile) number) (csrs_in csrs.now) inputs.now }
 {
-    match Csr::at(number) {
+    match Csr::at(profile_of(csrs.profile), number) {
         Some(csr) => RrsCsr {
             found: 1,
             value: file_of(csrs).read(csr, inputs),
@@ -227,23 +303,24 @@ pub(crate) fn csr_read(csrs: &RrsCsrs, number: u32, inputs: &Inputs) -> RrsCsr
 }
 
 /// The CSR that can be written by this number.
-fn csr_to_write(number: u32) -> Option<Csr>
-    ensures { result ≡ csr_to_write number }
+fn csr_to_write(profile: Profile, number: u32) -> Option<Csr>
+    ensures { result ≡ csr_to_write profile number }
 {
     if is_read_only(number) {
         None
     } else {
-        Csr::at(number)
+        Csr::at(profile, number)
     }
 }
 
 /// Writes the CSR with this number, if it can be written. Returns 1 where it can, else 0.
 pub(crate) fn csr_write(csrs: &mut RrsCsrs, number: u32, value: u32) -> u32
-    ensures written { csrs_in csrs.new ≡ file_after (csr_to_write number) value (csrs_in csrs.old) }
-    ensures told { result ≡ was_written (csr_to_write number) }
+    ensures written { csrs_in csrs.new
+        ≡ file_after (csr_to_write (profile_in csrs.old.profile) number) value (csrs_in csrs.old) }
+    ensures told { result ≡ was_written (csr_to_write (profile_in csrs.old.profile) number) }
     ensures trapped_kept { csrs.new.trapped ≡ csrs.old.trapped }
 {
-    let Some(csr) = csr_to_write(number) else {
+    let Some(csr) = csr_to_write(profile_of(csrs.profile), number) else {
         return 0;
     };
     let mut file = file_of(csrs);

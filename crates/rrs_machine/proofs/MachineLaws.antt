@@ -14,11 +14,11 @@ use Rattle.rrs_machine.specs.declared.machine.MachineAnswer.TheVariants.{Retired
 use Rattle.rrs_instruction.specs.Words.{bit}
 use Rattle.rrs_lib.specs.Machine.{State}
 use Rattle.rrs_lib.specs.Steps.{Step, next_word}
-use Rattle.rrs_words.specs.CsrNumbers.{csr_at, is_read_only}
-use Rattle.rrs_machine.specs.Csrs.{csr_written, cycle_counted, instruction_counted, retired_file, counted_beside}
+use Rattle.rrs_words.specs.CsrNumbers.{is_read_only}
+use Rattle.rrs_machine.specs.Csrs.{mode_of, found_csr, csr_written, cycle_counted, instruction_counted, retired_file, counted_beside}
 use Rattle.rrs_words.specs.SystemInstructions.{csr_number, writes_csr}
 use Rattle.rrs_machine.specs.Traps.{ready_interrupt, trap_file, return_file, exception_of}
-use Rattle.rrs_machine.specs.MachineSteps.{MachineState, MachineOutcome, ends, trapped, raises, accessed, csr_outcome, passed, wait_answer, system_outcome, IsNoSystem, Retires, Strays, Faults, Executes, MachineStep, Interrupts, Proceeds}
+use Rattle.rrs_machine.specs.MachineSteps.{MachineState, MachineOutcome, ends, trapped, raises, accessed, csr_outcome, passed, wait_answer, is_permitted, permitted_outcome, system_outcome, IsNoSystem, Retires, Strays, Faults, Executes, MachineStep, Interrupts, Proceeds}
 use Rattle.rrs_machine.specs.Laws.{KeepsValues, KeepsUnlessRetired, WritesNeither, instructions_after, cycles_after}
 
 -- ---- what a trap keeps
@@ -50,11 +50,19 @@ wait_keeps : (x : Option Interrupt) (s : MachineState) → Keeping s (ends (pass
 wait_keeps (Some x) s = tt
 wait_keeps None s = record { registers_kept = refl; bytes_kept = refl; writable_kept = refl }
 
+permitted_keeps : (row : SystemRow) (f : IType) (w : ℕ) (i : Inputs) (s : MachineState) → Keeping s (permitted_outcome row f w i s)
+permitted_keeps Mret f w i s = tt
+permitted_keeps Wfi f w i s = wait_keeps (ready_interrupt s.csrs i) s
+permitted_keeps FenceI f w i s = tt
+permitted_keeps row f w i s = csr_keeps row f w (found_csr s.csrs (csr_number f)) i s
+
+refused_keeps : (b : Bool) (s : MachineState) (x y : MachineOutcome) → Keeping s x → Keeping s y → Keeping s (if b then x else y)
+refused_keeps true s x y keeps other = keeps
+refused_keeps false s x y keeps other = other
+
 system_keeps : (row : SystemRow) (f : IType) (w : ℕ) (i : Inputs) (s : MachineState) → Keeping s (system_outcome row f w i s)
-system_keeps Mret f w i s = tt
-system_keeps Wfi f w i s = wait_keeps (ready_interrupt s.csrs i) s
-system_keeps FenceI f w i s = tt
-system_keeps row f w i s = csr_keeps row f w (csr_at (csr_number f)) i s
+system_keeps row f w i s =
+    refused_keeps (is_permitted row (mode_of s.csrs) s.csrs) s _ _ (permitted_keeps row f w i s) (raises_keeps w s)
 
 by_answer : (a b : MachineAnswer) (s t : State) → a ≡ b → KeepsUnlessRetired b s t → KeepsUnlessRetired a s t
 by_answer a b s t is keeps = subst (λ x. KeepsUnlessRetired x s t) (sym is) keeps
@@ -168,20 +176,30 @@ module _ (counter : CsrFile → ℕ) (after : MachineAnswer → ℕ → ℕ) (lo
   wait_counts (Some x) = at_retired
   wait_counts None = at_wait
 
+  permitted_counts : (row : SystemRow) (f : IType) (w : ℕ) (i : Inputs)
+      → ((csr : Csr) → writes_csr row f ≡ true → found_csr s.csrs (csr_number f) ≡ Some csr → (csr ≢ low) × (csr ≢ high))
+      → Counts (permitted_outcome row f w i s)
+  permitted_counts Mret f w i spares = at_return
+  permitted_counts Wfi f w i spares = wait_counts (ready_interrupt s.csrs i)
+  permitted_counts FenceI f w i spares = at_retired
+  permitted_counts row f w i spares = csr_counts row f w (found_csr s.csrs (csr_number f)) i spares
+
+  if_permitted : (b : Bool) (w : ℕ) (o : MachineOutcome) → Counts o → Counts (if b then o else raises (IllegalInstruction w) s)
+  if_permitted true w o counts = counts
+  if_permitted false w o counts = at_trap 2 w (Raised (IllegalInstruction w)) tt
+
   system_counts : (row : SystemRow) (f : IType) (w : ℕ) (i : Inputs)
-      → ((csr : Csr) → writes_csr row f ≡ true → csr_at (csr_number f) ≡ Some csr → (csr ≢ low) × (csr ≢ high))
+      → ((csr : Csr) → writes_csr row f ≡ true → found_csr s.csrs (csr_number f) ≡ Some csr → (csr ≢ low) × (csr ≢ high))
       → Counts (system_outcome row f w i s)
-  system_counts Mret f w i spares = at_return
-  system_counts Wfi f w i spares = wait_counts (ready_interrupt s.csrs i)
-  system_counts FenceI f w i spares = at_retired
-  system_counts row f w i spares = csr_counts row f w (csr_at (csr_number f)) i spares
+  system_counts row f w i spares =
+      if_permitted (is_permitted row (mode_of s.csrs) s.csrs) w _ (permitted_counts row f w i spares)
 
   trap_counts : (cause value target : ℕ) (t : MachineState) (a b : MachineAnswer) → t ≡ trapped cause value target s → a ≡ b → IsTrap b
       → counter t.csrs ≡ after a (counter s.csrs)
   trap_counts cause value target t a b leaves is trap =
       ap (λ (x : MachineState). counter x.csrs) leaves ∙ at_trap cause value b trap ∙ ap (λ y. after y (counter s.csrs)) (sym is)
 
-  step_counts : (i : Inputs) (t : MachineState) (a : MachineAnswer) → MachineStep i s t a → WritesNeither low high s.hart
+  step_counts : (i : Inputs) (t : MachineState) (a : MachineAnswer) → MachineStep i s t a → WritesNeither low high s
       → counter t.csrs ≡ after a (counter s.csrs)
   step_counts i t a (Interrupts x due leaves is) spares = trap_counts _ _ _ t a (Interrupted x) leaves is tt
   step_counts i t a (Proceeds none (Retires u step even leaves is)) spares =
@@ -189,13 +207,13 @@ module _ (counter : CsrFile → ℕ) (after : MachineAnswer → ℕ → ℕ) (lo
   step_counts i t a (Proceeds none (Strays u step odd leaves is)) spares =
       trap_counts _ _ _ t a (Raised (InstructionMisaligned u.pc)) leaves is tt
   step_counts i t a (Proceeds none (Faults u e step spares' leaves is)) spares =
-      trap_counts _ _ _ t a (Raised (exception_of (next_word s.hart) e)) leaves is tt
+      trap_counts _ _ _ t a (Raised (exception_of (mode_of s.csrs) (next_word s.hart) e)) leaves is tt
   step_counts i t a (Proceeds none (Executes w row f h outside is leaves)) spares =
       subst Counts (sym leaves) (system_counts row f w i (λ csr. spares w row f csr h is))
 
 -- minstret counts the instructions that retire
 pub step_minstret : (i : Inputs) (s t : MachineState) (a : MachineAnswer) → MachineStep i s t a → bit s.csrs.mcountinhibit 2 ≡ 0
-    → WritesNeither Minstret Minstreth s.hart → t.csrs.minstret ≡ instructions_after a s.csrs.minstret
+    → WritesNeither Minstret Minstreth s → t.csrs.minstret ≡ instructions_after a s.csrs.minstret
 step_minstret i s t a step on spares =
     step_counts (λ f. f.minstret) instructions_after Minstret Minstreth s
     at_trap (retired-minstret s.csrs on) (retired-minstret s.csrs on) (retired-minstret (return_file s.csrs) on)
@@ -210,7 +228,7 @@ step_minstret i s t a step on spares =
 
 -- mcycle counts the steps
 pub step_mcycle : (i : Inputs) (s t : MachineState) (a : MachineAnswer) → MachineStep i s t a → bit s.csrs.mcountinhibit 0 ≡ 0
-    → WritesNeither Mcycle Mcycleh s.hart → t.csrs.mcycle ≡ cycles_after a s.csrs.mcycle
+    → WritesNeither Mcycle Mcycleh s → t.csrs.mcycle ≡ cycles_after a s.csrs.mcycle
 step_mcycle i s t a step on spares =
     step_counts (λ f. f.mcycle) cycles_after Mcycle Mcycleh s
     at_trap (retired-mcycle s.csrs on) (retired-mcycle s.csrs on) (retired-mcycle (return_file s.csrs) on)

@@ -22,7 +22,7 @@ use Rattle.rrs_lib.specs.Steps.{Step, Illegal, next_word, cleared}
 use Rattle.rrs_lib.specs.Accesses.{Access, Makes, read_if_aligned, fetch}
 use Rattle.rrs_lib.proofs.Stepping.{Step-unique}
 use Rattle.rrs_lib.proofs.Making.{AccessesOf-unique}
-use Rattle.rrs_machine.specs.Csrs.{retired_file}
+use Rattle.rrs_machine.specs.Csrs.{mode_of, retired_file}
 use Rattle.rrs_words.specs.SystemInstructions.{IsSystem}
 use Rattle.rrs_machine.specs.Traps.{exception_of, exception_of_word, exception_of_fetch}
 use Rattle.rrs_machine.specs.MachineSteps.{MachineState, MachineOutcome, machine, raised, interrupted, system_outcome, InstructionStep, Retires, Strays, Faults, Executes, MachineStep, Interrupts, Proceeds, AccessesOfMachineStep, OfInterrupt, OfInstruction}
@@ -54,21 +54,21 @@ not_both s u u' e step step' =
 -- an exception of the word w, where it is none of the instructions that the 48 rows leave out
 pub faulted : (i : Inputs) (s t : MachineState) (a : MachineAnswer) (u : State) (e : InstructionException) (w : ℕ)
     → Step s.hart u (Err e) → next_word s.hart ≡ Some w → ((row : SystemRow) (f : IType) → IsIllegal w → ¬ IsSystem w row f)
-    → t ≡ raised (exception_of_word w e) s → a ≡ Raised (exception_of_word w e) → InstructionStep i s t a
+    → t ≡ raised (exception_of_word (mode_of s.csrs) w e) s → a ≡ Raised (exception_of_word (mode_of s.csrs) w e) → InstructionStep i s t a
 faulted i s t a u e w step h none after is =
     Faults u e step
     (λ w' row f h' outside is'.
     let words = same_Some _ _ (sym h' ∙ h) in
     none row f (subst IsIllegal words outside) (subst (λ x. IsSystem x row f) words is'))
-    (after ∙ ap (λ o. raised (exception_of o e) s) (sym h)) (is ∙ ap (λ o. Raised (exception_of o e)) (sym h))
+    (after ∙ ap (λ o. raised (exception_of (mode_of s.csrs) o e) s) (sym h)) (is ∙ ap (λ o. Raised (exception_of (mode_of s.csrs) o e)) (sym h))
 
 -- an exception of a fetch
 pub fetch_faulted : (i : Inputs) (s t : MachineState) (a : MachineAnswer) (u : State) (e : InstructionException)
     → Step s.hart u (Err e) → next_word s.hart ≡ None
-    → t ≡ raised (exception_of_fetch e) s → a ≡ Raised (exception_of_fetch e) → InstructionStep i s t a
+    → t ≡ raised (exception_of_fetch (mode_of s.csrs) e) s → a ≡ Raised (exception_of_fetch (mode_of s.csrs) e) → InstructionStep i s t a
 fetch_faulted i s t a u e step h after is =
     Faults u e step (λ w row f h' outside is'. none-some w (sym h ∙ h'))
-    (after ∙ ap (λ o. raised (exception_of o e) s) (sym h)) (is ∙ ap (λ o. Raised (exception_of o e)) (sym h))
+    (after ∙ ap (λ o. raised (exception_of (mode_of s.csrs) o e) s) (sym h)) (is ∙ ap (λ o. Raised (exception_of (mode_of s.csrs) o e)) (sym h))
 
 -- the word at an aligned pc is the one that is about to be executed
 pub next_stands : (s : State) (w : ℕ) → s.pc % 4 ≡ 0 → little_endian s.bytes s.pc 4 ≡ Some w → next_word s ≡ Some w
@@ -118,7 +118,7 @@ InstructionStep-unique i s t t' a a' (Faults u e step none after is) (Strays u' 
 InstructionStep-unique i s t t' a a' (Faults u e step none after is) (Faults u' e' step' none' after' is') =
     let answers : Err e ≡ Err e' = (Step-unique one_row_at_most s.hart u u' (Err e) (Err e') step step').1 in
     let same : e ≡ e' = cc in
-    (after ∙ ap (λ x. raised (exception_of (next_word s.hart) x) s) same ∙ sym after', is ∙ ap (λ x. Raised (exception_of (next_word s.hart) x)) same ∙ sym is')
+    (after ∙ ap (λ x. raised (exception_of (mode_of s.csrs) (next_word s.hart) x) s) same ∙ sym after', is ∙ ap (λ x. Raised (exception_of (mode_of s.csrs) (next_word s.hart) x)) same ∙ sym is')
 InstructionStep-unique i s t t' a a' (Faults u e step none after is) (Executes w' row' f' h' outside' is' leaves') =
     absurd (none w' row' f' h' outside' is')
 InstructionStep-unique i s t t' a a' (Executes w row f h outside is leaves) (Retires u' step' even' after' is') =

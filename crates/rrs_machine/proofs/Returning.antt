@@ -8,9 +8,13 @@ use Rattle.rrs_instruction.proofs.Bitwise.{and-word, or-word}
 use Rattle.rrs_machine.specs.declared.csrs.CsrFile.{CsrFile}
 use Rattle.rrs_words.specs.declared.csrs.Csr.TheVariants.{Mepc}
 use Rattle.rrs_machine.specs.declared.csrs.Inputs.{Inputs}
-use Rattle.rrs_words.specs.CsrNumbers.{both, either}
-use Rattle.rrs_machine.specs.Csrs.{csr_value, cycle_counted, retired_file}
-use Rattle.rrs_machine.specs.Traps.{trap_file, return_file}
+use Rattle.rrs_machine.specs.declared.csrs.Mode.{Mode}
+use Rattle.rrs_machine.specs.declared.csrs.Mode.TheVariants.{User, Machine}
+use Rattle.rrs_words.specs.declared.csrs.Profile.{Profile}
+use Rattle.rrs_words.specs.CsrNumbers.{both, either, previous}
+use Rattle.rrs_machine.specs.Csrs.{mode_number, mode_of, csr_value, cycle_counted, retired_file}
+use Rattle.rrs_machine.specs.Traps.{mode_bits, trap_file, previous_mode, returned_mprv, return_file}
+use Rattle.rrs_machine.proofs.Counting.{stops_cycles, cycle_at, retired_at}
 
 -- a multiple of 4 keeps its bits
 pub both-multiple : (n : ℕ) → n < 2 ^ 32 → n % 4 ≡ 0 → both n 0xfffffffc ≡ n
@@ -58,14 +62,52 @@ pc_returns cause value pc f i below even =
     let once = both-multiple pc below even in
     ap (λ n. either 0 (both n 0xfffffffc)) (keeps ∙ once) ∙ ap (either 0) once ∙ either-zero pc below
 
+-- MPP and what is above it are far from MIE and MPIE
+above : (p : Profile) (mpp mprv tw : ℕ) → mode_bits p mpp mprv tw ≡ mode_bits p mpp mprv tw / 2 ^ 11 * 2 ^ 11
+above p mpp mprv tw = by_case p.user_mode where
+  by_case : (b : Bool) → (if b then mpp * 2 ^ 11 + mprv * 2 ^ 17 + tw * 2 ^ 21 else 0)
+      ≡ (if b then mpp * 2 ^ 11 + mprv * 2 ^ 17 + tw * 2 ^ 21 else 0) / 2 ^ 11 * 2 ^ 11
+  by_case true = omega arith
+  by_case false = refl
+
 -- MIE goes into MPIE and comes back
-bit_returns : (m : ℕ) → bit (2 ^ 7 + bit (bit m 3 * 2 ^ 7) 7 * 2 ^ 3) 3 ≡ bit m 3
-bit_returns m = omega arith
+mie_after : (m x y : ℕ) → bit (2 ^ 7 + bit (bit m 3 * 2 ^ 7 + x * 2 ^ 11) 7 * 2 ^ 3 + y * 2 ^ 11) 3 ≡ bit m 3
+mie_after m x y = omega arith
+
+bit_returns : (p : Profile) (m a b c d e g : ℕ)
+    → bit (2 ^ 7 + bit (bit m 3 * 2 ^ 7 + mode_bits p a b c) 7 * 2 ^ 3 + mode_bits p d e g) 3 ≡ bit m 3
+bit_returns p m a b c d e g =
+    (λ k. bit (2 ^ 7 + bit (bit m 3 * 2 ^ 7 + above p a b c k) 7 * 2 ^ 3 + above p d e g k) 3)
+    ∙ mie_after m (mode_bits p a b c / 2 ^ 11) (mode_bits p d e g / 2 ^ 11)
+
+cycle-profile : (f : CsrFile) → (cycle_counted f).profile ≡ f.profile
+cycle-profile f = ap (λ (x : CsrFile). x.profile) (cycle_at (stops_cycles f) f)
 
 pub enabled_returns : (cause value pc : ℕ) (f : CsrFile)
     → bit (retired_file (return_file (cycle_counted (trap_file cause value pc f)))).mstatus 3 ≡ bit f.mstatus 3
 enabled_returns cause value pc f =
     let g = trap_file cause value pc f in
-    ap (λ n. bit n 3) (retired-status (return_file (cycle_counted g)))
-    ∙ ap (λ n. bit (2 ^ 7 + bit n 7 * 2 ^ 3) 3) (cycle-status g)
-    ∙ bit_returns f.mstatus
+    let h = cycle_counted g in
+    ap (λ n. bit n 3) (retired-status (return_file h))
+    ∙ (λ k. bit (2 ^ 7 + bit (cycle-status g k) 7 * 2 ^ 3 + mode_bits (cycle-profile g k) 0 (returned_mprv (previous_mode h) h) (bit h.mstatus 21)) 3)
+    ∙ bit_returns f.profile f.mstatus _ _ _ 0 (returned_mprv (previous_mode h) h) (bit h.mstatus 21)
+
+-- and the mode goes into MPP and comes back
+mpp_after : (m mpp mprv tw : ℕ) → mpp < 4 → previous (bit m 3 * 2 ^ 7 + (mpp * 2 ^ 11 + mprv * 2 ^ 17 + tw * 2 ^ 21)) ≡ mpp
+mpp_after m mpp mprv tw low = omega (arith, low)
+
+mode_back : (b : Bool) (mode : Mode) (m : ℕ)
+    → (if b then (if b then (if previous (bit m 3 * 2 ^ 7 + (if b then mode_number mode * 2 ^ 11 + bit m 17 * 2 ^ 17 + bit m 21 * 2 ^ 21 else 0)) == 3
+    then Machine else User) else Machine) else Machine)
+    ≡ (if b then mode else Machine)
+mode_back true User m = ap (λ n. if n == 3 then Machine else User) (mpp_after m 0 (bit m 17) (bit m 21) (lit< tt))
+mode_back true Machine m = ap (λ n. if n == 3 then Machine else User) (mpp_after m 3 (bit m 17) (bit m 21) (lit< tt))
+mode_back false mode m = refl
+
+pub mode_returns : (cause value pc : ℕ) (f : CsrFile)
+    → mode_of (retired_file (return_file (cycle_counted (trap_file cause value pc f)))) ≡ mode_of f
+mode_returns cause value pc f =
+    let g = trap_file cause value pc f in
+    ap mode_of (retired_at (return_file (cycle_counted g)))
+    ∙ ap (λ (x : CsrFile). mode_of (return_file x)) (cycle_at (stops_cycles g) g)
+    ∙ mode_back f.profile.user_mode f.mode f.mstatus

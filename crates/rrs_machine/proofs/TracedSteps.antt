@@ -16,9 +16,10 @@ use Rattle.rrs_trace.specs.declared.traced.TracedMemory.{TracedMemory}
 use Rattle.rrs_trace.specs.Retired.{no_access, after_fetch}
 use Rattle.rrs_trace.specs.Traced.{traced_reads, traced_writes}
 use Rattle.rrs_trace.proofs.TracedAccesses.{step_kept, inner_exactly, still_lent}
-use Rattle.rrs_words.specs.CsrNumbers.{csr_at, is_read_only}
+use Rattle.rrs_words.specs.CsrNumbers.{is_read_only}
+use Rattle.rrs_machine.specs.Csrs.{mode_of, found_csr}
 use Rattle.rrs_words.specs.SystemInstructions.{csr_number, writes_csr}
-use Rattle.rrs_machine.specs.MachineSteps.{MachineState, MachineOutcome, InstructionStep, Retires, Strays, Faults, Executes, MachineStep, Interrupts, Proceeds, AccessesOfMachineStep, OfInterrupt, OfInstruction, csr_outcome, system_outcome}
+use Rattle.rrs_machine.specs.MachineSteps.{MachineState, MachineOutcome, InstructionStep, Retires, Strays, Faults, Executes, MachineStep, Interrupts, Proceeds, AccessesOfMachineStep, OfInterrupt, OfInstruction, csr_outcome, is_permitted, permitted_outcome, system_outcome}
 use Rattle.rrs_machine.specs.MachineRecords.{word_unless, word_of_step}
 
 -- ---- the register that was written last
@@ -34,17 +35,23 @@ csr_last row f w (Some csr) i s low =
     cond_both (writes_csr row f && is_read_only (csr_number f)) _ _ (λ (o : MachineOutcome). LastIsRegister o.after.hart.last)
     (λ _. tt) (λ _. put_last s.hart f.rd _ low)
 
+permitted_last : (row : SystemRow) (f : IType) (w : ℕ) (i : Inputs) (s : MachineState) → f.rd < 2 ^ 5
+    → LastIsRegister (permitted_outcome row f w i s).after.hart.last
+permitted_last Mret f w i s low = tt
+permitted_last Wfi f w i s low = tt
+permitted_last FenceI f w i s low = tt
+permitted_last Csrrw f w i s low = csr_last Csrrw f w (found_csr s.csrs (csr_number f)) i s low
+permitted_last Csrrs f w i s low = csr_last Csrrs f w (found_csr s.csrs (csr_number f)) i s low
+permitted_last Csrrc f w i s low = csr_last Csrrc f w (found_csr s.csrs (csr_number f)) i s low
+permitted_last Csrrwi f w i s low = csr_last Csrrwi f w (found_csr s.csrs (csr_number f)) i s low
+permitted_last Csrrsi f w i s low = csr_last Csrrsi f w (found_csr s.csrs (csr_number f)) i s low
+permitted_last Csrrci f w i s low = csr_last Csrrci f w (found_csr s.csrs (csr_number f)) i s low
+
 outcome_last : (row : SystemRow) (f : IType) (w : ℕ) (i : Inputs) (s : MachineState) → f.rd < 2 ^ 5
     → LastIsRegister (system_outcome row f w i s).after.hart.last
-outcome_last Mret f w i s low = tt
-outcome_last Wfi f w i s low = tt
-outcome_last FenceI f w i s low = tt
-outcome_last Csrrw f w i s low = csr_last Csrrw f w (csr_at (csr_number f)) i s low
-outcome_last Csrrs f w i s low = csr_last Csrrs f w (csr_at (csr_number f)) i s low
-outcome_last Csrrc f w i s low = csr_last Csrrc f w (csr_at (csr_number f)) i s low
-outcome_last Csrrwi f w i s low = csr_last Csrrwi f w (csr_at (csr_number f)) i s low
-outcome_last Csrrsi f w i s low = csr_last Csrrsi f w (csr_at (csr_number f)) i s low
-outcome_last Csrrci f w i s low = csr_last Csrrci f w (csr_at (csr_number f)) i s low
+outcome_last row f w i s low =
+    cond_both (is_permitted row (mode_of s.csrs) s.csrs) _ _ (λ (o : MachineOutcome). LastIsRegister o.after.hart.last)
+    (λ _. permitted_last row f w i s low) (λ _. tt)
 
 abbrev HasLast : MachineState → Type 0
 HasLast t = LastIsRegister t.hart.last

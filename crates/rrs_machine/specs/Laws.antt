@@ -9,8 +9,9 @@ use Rattle.rrs_machine.specs.declared.machine.MachineAnswer.{MachineAnswer}
 use Rattle.rrs_machine.specs.declared.machine.MachineAnswer.TheVariants.{Retired, Waiting}
 use Rattle.rrs_lib.specs.Machine.{State}
 use Rattle.rrs_lib.specs.Steps.{next_word}
-use Rattle.rrs_words.specs.CsrNumbers.{csr_at}
 use Rattle.rrs_words.specs.SystemInstructions.{IsSystem, csr_number, writes_csr}
+use Rattle.rrs_machine.specs.Csrs.{found_csr}
+use Rattle.rrs_machine.specs.MachineSteps.{MachineState}
 
 -- registers and memory stay
 pub record KeepsValues (s t : State) : Type 0 where
@@ -24,11 +25,11 @@ KeepsUnlessRetired Retired s t = Unit {0}
 KeepsUnlessRetired _ s t = KeepsValues s t
 
 -- the word at the program counter writes neither of two CSRs
-abbrev pub WritesNeither : Csr → Csr → State → Type 0
-WritesNeither low high h =
+abbrev pub WritesNeither : Csr → Csr → MachineState → Type 0
+WritesNeither low high s =
     (w : ℕ) (row : SystemRow) (f : IType) (csr : Csr)
-    → next_word h ≡ Some w → IsSystem w row f → writes_csr row f ≡ true
-    → csr_at (csr_number f) ≡ Some csr → (csr ≢ low) × (csr ≢ high)
+    → next_word s.hart ≡ Some w → IsSystem w row f → writes_csr row f ≡ true
+    → found_csr s.csrs (csr_number f) ≡ Some csr → (csr ≢ low) × (csr ≢ high)
 
 -- a counter of instructions, and one of steps, after a step
 abbrev pub instructions_after : MachineAnswer → ℕ → ℕ

@@ -3,6 +3,7 @@
 -- first one of a handler, its mode, the cause of its trap, and the CSR that it read and wrote.
 use Rattle.std.specs.Prelude.{◌≡◌, ◌≢◌, ℕ, ◌+◌, ◌-◌, ◌^◌, ◌==◌, ◌&&◌, List, Bool, true, false, not, if◌then◌else◌, Option, Some, None}
 use Rattle.rrs_instruction.specs.declared.instruction_formats.IType.{IType}
+use Rattle.rrs_words.specs.declared.csrs.Profile.{Profile}
 use Rattle.rrs_words.specs.declared.csrs.Csr.{Csr}
 use Rattle.rrs_machine.specs.declared.csrs.Inputs.{Inputs}
 use Rattle.rrs_words.specs.declared.instructions.SystemRow.{SystemRow}
@@ -18,8 +19,8 @@ use Rattle.rrs_lib.specs.Machine.{State, reg}
 use Rattle.rrs_lib.specs.Steps.{next_word}
 use Rattle.rrs_lib.specs.Accesses.{Access}
 use Rattle.rrs_trace.specs.Retired.{first_source, second_source, last_of, after_fetch}
-use Rattle.rrs_words.specs.CsrNumbers.{both, csr_at, written_bits}
-use Rattle.rrs_machine.specs.Csrs.{csr_value}
+use Rattle.rrs_words.specs.CsrNumbers.{both, csr_at, written_bits, legal}
+use Rattle.rrs_machine.specs.Csrs.{mode_number, mode_of, csr_value}
 use Rattle.rrs_words.specs.SystemInstructions.{IsSystem, csr_number, always_writes, writes_csr, updated}
 use Rattle.rrs_machine.specs.Traps.{exception_code, interrupt_code, interrupt_due}
 use Rattle.rrs_machine.specs.MachineSteps.{MachineState, operand_of, AccessesOfMachineStep}
@@ -72,13 +73,15 @@ no_csr = record { addr = 0; rmask = 0; wmask = 0; rdata = 0; wdata = 0 }
 
 -- What was read and what was written of a CSR, each with the bits that were: a read takes all bits,
 -- and a write those that the CSR has written.
-abbrev pub csr_access : SystemRow → IType → Csr → ℕ → ℕ → CsrAccess
-csr_access row f csr old operand = record {
+abbrev pub csr_access : Profile → SystemRow → IType → Csr → ℕ → ℕ → CsrAccess
+csr_access p row f csr old operand = record {
   addr = csr_number f;
   rmask = if reads_csr row f then 2 ^ 32 - 1 else 0;
-  wmask = if writes_csr row f then written_bits csr else 0;
+  wmask = if writes_csr row f then written_bits p csr else 0;
   rdata = if reads_csr row f then old else 0;
-  wdata = if writes_csr row f then both (updated row old operand) (written_bits csr) else 0;
+  wdata = if writes_csr row f
+      then both (legal csr old (updated row old operand)) (written_bits p csr)
+      else 0;
 }
 
 -- What a step from s accessed of a CSR that fetched a word, or none: an instruction on a CSR that
@@ -87,8 +90,8 @@ pub record HasCsrAccess (word : Option ℕ) (answer : MachineAnswer) (i : Inputs
     (r : CsrAccess) : Type 0 where
   pub of_csr : (w : ℕ) (row : SystemRow) (f : IType) (csr : Csr)
       → word ≡ Some w → IsSystem w row f → is_on_csr row ≡ true
-      → csr_at (csr_number f) ≡ Some csr → answer ≡ Retired
-      → r ≡ csr_access row f csr (csr_value csr s.csrs i) (operand_of row f s.hart)
+      → csr_at s.csrs.profile (csr_number f) ≡ Some csr → answer ≡ Retired
+      → r ≡ csr_access s.csrs.profile row f csr (csr_value csr s.csrs i) (operand_of row f s.hart)
   pub of_other : (w : ℕ)
       → word ≡ Some w
       → ((row : SystemRow) (f : IType) → IsSystem w row f → is_on_csr row ≡ false)
@@ -119,7 +122,7 @@ pub record MachineRetires (order : ℕ) (first : Bool) (i : Inputs) (s t : Machi
     (answer : MachineAnswer) (r : MachineRetired) : Type 0 where
   pub valid_is : r.valid ≡ is_instruction answer
   pub intr_is : r.intr ≡ (first && is_instruction answer)
-  pub mode_is : r.mode ≡ 3
+  pub mode_is : r.mode ≡ mode_number (mode_of s.csrs)
   pub cause_is : r.cause ≡ cause_of answer
   pub order_is : r.retired.order ≡ order
   pub insn_is : r.retired.insn ≡ word_of_step i s

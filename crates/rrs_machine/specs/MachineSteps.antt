@@ -1,15 +1,18 @@
--- One step of a hart that has machine mode (RISC-V privileged specification 1.12, "Machine-Level
--- ISA"; unprivileged specification, "Zicsr": an instruction on a CSR reads the old value and then
--- writes). An instruction of the 48 rows does what the kit's own step does. Two things are decided
--- here: a jump or a taken branch to a misaligned address raises its exception at the jump, with no
--- register written, as the specification has it; and a wfi retires at once, with an answer that
--- tells whether the hart waits, so that an interrupt that comes meanwhile is taken after it.
-use Rattle.std.specs.Prelude.{◌≡◌, ◌≢◌, ℕ, ◌+◌, ◌%◌, ◌^◌, ◌&&◌, List, [], Bool, pos, false, if◌then◌else◌, Option, Some, None, Ok, Err}
+-- One step of a hart that has machine mode, alone or with user mode (RISC-V privileged
+-- specification 1.12, "Machine-Level ISA"; unprivileged specification, "Zicsr": an instruction on a
+-- CSR reads the old value and then writes). An instruction of the 48 rows does what the kit's own
+-- step does, in both modes. Two things are decided here: a jump or a taken branch to a misaligned
+-- address raises its exception at the jump, with no register written, as the specification has it;
+-- and a wfi retires at once, with an answer that tells whether the hart waits, so that an interrupt
+-- that comes meanwhile is taken after it.
+use Rattle.std.specs.Prelude.{◌≡◌, ◌≢◌, ℕ, ◌+◌, ◌%◌, ◌^◌, ◌==◌, ◌&&◌, List, [], Bool, pos, true, false, not, if◌then◌else◌, Option, Some, None, Ok, Err}
 use Rattle.rrs_lib.specs.declared.HartState.{HartState}
 use Rattle.rrs_lib.specs.declared.instruction_executor.InstructionException.{InstructionException}
 use Rattle.rrs_lib.specs.declared.instruction_executor.InstructionExecutor.{InstructionExecutor}
 use Rattle.rrs_instruction.specs.declared.instruction_formats.IType.{IType}
 use Rattle.rrs_machine.specs.declared.csrs.CsrFile.{CsrFile}
+use Rattle.rrs_machine.specs.declared.csrs.Mode.{Mode}
+use Rattle.rrs_machine.specs.declared.csrs.Mode.TheVariants.{User, Machine}
 use Rattle.rrs_words.specs.declared.csrs.Csr.{Csr}
 use Rattle.rrs_words.specs.declared.csrs.Csr.TheVariants.{Mepc}
 use Rattle.rrs_machine.specs.declared.csrs.Inputs.{Inputs}
@@ -21,13 +24,14 @@ use Rattle.rrs_machine.specs.declared.traps.Interrupt.{Interrupt}
 use Rattle.rrs_machine.specs.declared.machine.MachineAnswer.{MachineAnswer}
 use Rattle.rrs_machine.specs.declared.machine.MachineAnswer.TheVariants.{Retired, Waiting, Raised, Interrupted}
 use Rattle.rrs_instruction.specs.Table.{IsIllegal}
+use Rattle.rrs_instruction.specs.Words.{bit}
 use Rattle.rrs_lib.specs.Bytes.{ByteMap}
 use Rattle.rrs_lib.specs.Machine.{State, state_of, reg, put, with_pc}
 use Rattle.rrs_lib.specs.Steps.{Step, next_word, cleared, advanced}
 use Rattle.rrs_lib.specs.Executor.{state_in}
 use Rattle.rrs_lib.specs.Accesses.{Access, AccessesOf}
-use Rattle.rrs_words.specs.CsrNumbers.{csr_at, is_read_only}
-use Rattle.rrs_machine.specs.Csrs.{csr_value, csr_written, cycle_counted, retired_file, counted_beside}
+use Rattle.rrs_words.specs.CsrNumbers.{is_read_only}
+use Rattle.rrs_machine.specs.Csrs.{mode_of, found_csr, csr_value, csr_written, cycle_counted, retired_file, counted_beside}
 use Rattle.rrs_words.specs.SystemInstructions.{IsSystem, csr_number, writes_csr, has_immediate, updated}
 use Rattle.rrs_machine.specs.Traps.{exception_code, exception_value, interrupt_code, ready_interrupt, interrupt_due, trap_file, return_file, base_of, vector_of, exception_of}
 
@@ -98,7 +102,8 @@ accessed row f csr i s = machine
     (gone_on (put (cleared s.hart) f.rd (pos (csr_value csr s.csrs i))))
     (file_updated row f csr (csr_value csr s.csrs i) (operand_of row f s.hart) s.csrs)
 
--- A number that is no CSR, and a write to one that is read only, is an illegal instruction.
+-- A number that is no CSR of the mode, and a write to one that is read only, is an illegal
+-- instruction.
 abbrev pub csr_outcome : SystemRow → IType → ℕ → Option Csr → Inputs → MachineState
     → MachineOutcome
 csr_outcome row f w None i s = raises (IllegalInstruction w) s
@@ -122,12 +127,24 @@ abbrev pub wait_answer : Option Interrupt → MachineAnswer
 wait_answer (Some x) = Retired
 wait_answer None = Waiting
 
--- the outcome of the word w, which is this row with these fields
+-- User mode has no mret, and no wfi where TW is 1.
+abbrev pub is_permitted : SystemRow → Mode → CsrFile → Bool
+is_permitted Mret User file = false
+is_permitted Wfi User file = not (bit file.mstatus 21 == 1)
+is_permitted _ _ file = true
+
+-- the outcome of the word w, which is this row with these fields, where the mode has it
+abbrev pub permitted_outcome : SystemRow → IType → ℕ → Inputs → MachineState → MachineOutcome
+permitted_outcome Mret f w i s = ends (returned i s) Retired
+permitted_outcome Wfi f w i s = ends (passed s) (wait_answer (ready_interrupt s.csrs i))
+permitted_outcome FenceI f w i s = ends (passed s) Retired
+permitted_outcome row f w i s = csr_outcome row f w (found_csr s.csrs (csr_number f)) i s
+
 abbrev pub system_outcome : SystemRow → IType → ℕ → Inputs → MachineState → MachineOutcome
-system_outcome Mret f w i s = ends (returned i s) Retired
-system_outcome Wfi f w i s = ends (passed s) (wait_answer (ready_interrupt s.csrs i))
-system_outcome FenceI f w i s = ends (passed s) Retired
-system_outcome row f w i s = csr_outcome row f w (csr_at (csr_number f)) i s
+system_outcome row f w i s =
+    if is_permitted row (mode_of s.csrs) s.csrs
+    then permitted_outcome row f w i s
+    else raises (IllegalInstruction w) s
 
 -- ---- a step
 
@@ -152,8 +169,8 @@ pub data InstructionStep (i : Inputs) (s t : MachineState) (answer : MachineAnsw
   -- the step of the kit ends with an exception, which is raised
   Faults : (u : State) (e : InstructionException)
       → Step s.hart u (Err e) → IsNoSystem s.hart
-      → t ≡ raised (exception_of (next_word s.hart) e) s
-      → answer ≡ Raised (exception_of (next_word s.hart) e)
+      → t ≡ raised (exception_of (mode_of s.csrs) (next_word s.hart) e) s
+      → answer ≡ Raised (exception_of (mode_of s.csrs) (next_word s.hart) e)
       → InstructionStep i s t answer
   -- one of the instructions that the 48 rows leave out
   Executes : (w : ℕ) (row : SystemRow) (f : IType)

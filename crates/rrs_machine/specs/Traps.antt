@@ -1,18 +1,23 @@
 -- Traps (RISC-V privileged specification 1.12, "Machine-Level CSRs": mstatus, mtvec, mepc, mcause,
 -- mtval, mip and mie). An exception is raised by an instruction, and an interrupt is taken before
--- one. A trap keeps MIE in MPIE and clears MIE; mret puts MPIE back into MIE and sets MPIE.
-use Rattle.std.specs.Prelude.{ℕ, ◌+◌, ◌*◌, ◌/◌, ◌%◌, ◌^◌, ◌==◌, ◌&&◌, Bool, if◌then◌else◌, pos, Option, Some, None}
+-- one. A trap goes to machine mode. It keeps MIE in MPIE and clears MIE, and keeps the mode in MPP;
+-- mret puts MPIE back into MIE and sets MPIE, and goes to the mode in MPP.
+use Rattle.std.specs.Prelude.{ℕ, ◌+◌, ◌*◌, ◌/◌, ◌%◌, ◌^◌, ◌==◌, ◌&&◌, Bool, true, false, if◌then◌else◌, pos, Option, Some, None}
 use Rattle.rrs_lib.specs.declared.instruction_executor.InstructionException.{InstructionException}
 use Rattle.rrs_lib.specs.declared.instruction_executor.InstructionException.TheVariants.{AlignmentFault, FetchError, LoadAccessFault, StoreAccessFault}
 use Rattle.rrs_machine.specs.declared.csrs.CsrFile.{CsrFile}
+use Rattle.rrs_machine.specs.declared.csrs.Mode.{Mode}
+use Rattle.rrs_machine.specs.declared.csrs.Mode.TheVariants.{User, Machine}
+use Rattle.rrs_words.specs.declared.csrs.Profile.{Profile}
 use Rattle.rrs_words.specs.declared.csrs.Csr.TheVariants.{Mepc}
 use Rattle.rrs_machine.specs.declared.csrs.Inputs.{Inputs}
 use Rattle.rrs_machine.specs.declared.traps.Exception.{Exception}
-use Rattle.rrs_machine.specs.declared.traps.Exception.TheVariants.{InstructionMisaligned, InstructionFault, IllegalInstruction, Breakpoint, LoadMisaligned, LoadFault, StoreMisaligned, StoreFault, EnvironmentCall}
+use Rattle.rrs_machine.specs.declared.traps.Exception.TheVariants.{InstructionMisaligned, InstructionFault, IllegalInstruction, Breakpoint, LoadMisaligned, LoadFault, StoreMisaligned, StoreFault, EnvironmentCall, UserEnvironmentCall}
 use Rattle.rrs_machine.specs.declared.traps.Interrupt.{Interrupt}
 use Rattle.rrs_machine.specs.declared.traps.Interrupt.TheVariants.{External, Software, Timer}
 use Rattle.rrs_instruction.specs.Words.{word, bit}
-use Rattle.rrs_words.specs.CsrNumbers.{both, written_bits}
+use Rattle.rrs_words.specs.CsrNumbers.{both, written_bits, previous}
+use Rattle.rrs_machine.specs.Csrs.{mode_number, mode_of}
 
 -- ---- what they are called by
 
@@ -26,6 +31,7 @@ exception_code (LoadMisaligned a) = 4
 exception_code (LoadFault a) = 5
 exception_code (StoreMisaligned a) = 6
 exception_code (StoreFault a) = 7
+exception_code UserEnvironmentCall = 8
 exception_code EnvironmentCall = 11
 
 -- What mtval is: the address of the jump's target, the fetch, the ebreak, the load or the store;
@@ -39,6 +45,7 @@ exception_value (LoadMisaligned a) = a
 exception_value (LoadFault a) = a
 exception_value (StoreMisaligned a) = a
 exception_value (StoreFault a) = a
+exception_value UserEnvironmentCall = 0
 exception_value EnvironmentCall = 0
 
 -- the code of an interrupt, which is also its bit in mie and mip
@@ -60,24 +67,52 @@ ready_interrupt f i =
     else (if is_ready f i.software Software then Some Software
     else (if is_ready f i.timer Timer then Some Timer else None))
 
--- the one that is taken: none where MIE is 0
+-- MIE masks the interrupts in machine mode, and none in user mode
+abbrev pub is_enabled : Mode → ℕ → Bool
+is_enabled Machine status = bit status 3 == 1
+is_enabled User status = true
+
+-- the one that is taken
 abbrev pub interrupt_due : CsrFile → Inputs → Option Interrupt
-interrupt_due f i = if bit f.mstatus 3 == 1 then ready_interrupt f i else None
+interrupt_due f i = if is_enabled (mode_of f) f.mstatus then ready_interrupt f i else None
 
 -- ---- the CSRs after a trap, and after an mret
 
--- MPIE is MIE, and MIE is 0; mepc is the pc but for its two low bits
+-- MPP, MPRV and TW of mstatus, which are there with user mode
+abbrev pub mode_bits : Profile → ℕ → ℕ → ℕ → ℕ
+mode_bits p mpp mprv tw =
+    if p.user_mode then mpp * 2 ^ 11 + mprv * 2 ^ 17 + tw * 2 ^ 21 else 0
+
+-- MPIE is MIE, MIE is 0, MPP is the mode, and MPRV and TW stay; mepc is the pc but for its two low
+-- bits
 abbrev pub trap_file : ℕ → ℕ → ℕ → CsrFile → CsrFile
 trap_file cause value pc f = record f {
-  mstatus = bit f.mstatus 3 * 2 ^ 7;
-  mepc = both pc (written_bits Mepc);
+  mode = Machine;
+  mstatus = bit f.mstatus 3 * 2 ^ 7
+      + mode_bits f.profile (mode_number f.mode) (bit f.mstatus 17) (bit f.mstatus 21);
+  mepc = both pc (written_bits f.profile Mepc);
   mcause = cause;
   mtval = value;
 }
 
--- MIE is MPIE, and MPIE is 1
+-- the mode that an mret goes to
+abbrev pub previous_mode : CsrFile → Mode
+previous_mode f =
+    if f.profile.user_mode then (if previous f.mstatus == 3 then Machine else User) else Machine
+
+-- MPRV after an mret to a mode: it is cleared where that is user mode
+abbrev pub returned_mprv : Mode → CsrFile → ℕ
+returned_mprv Machine f = bit f.mstatus 17
+returned_mprv User f = 0
+
+-- MIE is MPIE, MPIE is 1, MPP is user mode, and TW stays
 abbrev pub return_file : CsrFile → CsrFile
-return_file f = record f { mstatus = 2 ^ 7 + bit f.mstatus 7 * 2 ^ 3 }
+return_file f = record f {
+  mode = previous_mode f;
+  mstatus = 2 ^ 7 + bit f.mstatus 7 * 2 ^ 3
+      + mode_bits f.profile (mode_number User) (returned_mprv (previous_mode f) f)
+      (bit f.mstatus 21);
+}
 
 -- the base of the handlers, where an exception goes
 abbrev pub base_of : CsrFile → ℕ
@@ -94,21 +129,26 @@ vector_of code f =
 abbrev pub misaligned_access : ℕ → ℕ → Exception
 misaligned_access w a = if w % 2 ^ 7 == 0x23 then StoreMisaligned a else LoadMisaligned a
 
--- the exception of the word w that the kit's machine ended a step with
-abbrev pub exception_of_word : ℕ → InstructionException → Exception
-exception_of_word w (AlignmentFault a) = misaligned_access w a
-exception_of_word w (LoadAccessFault a) = LoadFault a
-exception_of_word w (StoreAccessFault a) = StoreFault a
-exception_of_word w (FetchError a) = InstructionFault a
-exception_of_word w (InstructionException.IllegalInstruction pc v) = IllegalInstruction v
-exception_of_word w (InstructionException.EnvironmentCall pc) = EnvironmentCall
-exception_of_word w (InstructionException.Breakpoint pc) = Breakpoint pc
+-- an ecall by the mode
+abbrev pub call_from : Mode → Exception
+call_from User = UserEnvironmentCall
+call_from Machine = EnvironmentCall
+
+-- the exception of the word w, in a mode, that the kit's machine ended a step with
+abbrev pub exception_of_word : Mode → ℕ → InstructionException → Exception
+exception_of_word m w (AlignmentFault a) = misaligned_access w a
+exception_of_word m w (LoadAccessFault a) = LoadFault a
+exception_of_word m w (StoreAccessFault a) = StoreFault a
+exception_of_word m w (FetchError a) = InstructionFault a
+exception_of_word m w (InstructionException.IllegalInstruction pc v) = IllegalInstruction v
+exception_of_word m w (InstructionException.EnvironmentCall pc) = call_from m
+exception_of_word m w (InstructionException.Breakpoint pc) = Breakpoint pc
 
 -- the exception where no word was fetched
-abbrev pub exception_of_fetch : InstructionException → Exception
-exception_of_fetch (AlignmentFault a) = InstructionMisaligned a
-exception_of_fetch e = exception_of_word 0 e
+abbrev pub exception_of_fetch : Mode → InstructionException → Exception
+exception_of_fetch m (AlignmentFault a) = InstructionMisaligned a
+exception_of_fetch m e = exception_of_word m 0 e
 
-abbrev pub exception_of : Option ℕ → InstructionException → Exception
-exception_of None e = exception_of_fetch e
-exception_of (Some w) e = exception_of_word w e
+abbrev pub exception_of : Mode → Option ℕ → InstructionException → Exception
+exception_of m None e = exception_of_fetch m e
+exception_of m (Some w) e = exception_of_word m w e

@@ -1,14 +1,37 @@
-//! The control and status registers of a hart that has machine mode alone.
+//! The control and status registers of a hart that has machine mode, alone or with user mode.
 //!
 //! A [CsrFile] keeps what is kept. [CsrFile::read] and [CsrFile::write] read and write a register
-//! as the instructions do. What is read, and what each is at reset, is `specs/Csrs.antt`.
+//! as the instructions do, and [CsrFile::found] is what an instruction may access. What is read, and
+//! what each is at reset, is `specs/Csrs.antt`.
 
-ghost use Rattle.std.specs.Prelude.{◌≡◌, ◌+◌, ◌-◌, ◌*◌, ◌/◌, ◌%◌, ◌^◌, ◌<◌, ◌≤◌, ◌==◌, ◌↔◌, IsTrue};
-ghost use Rattle.rrs_words.specs.CsrNumbers.{both, either, csr_among, setup_csrs, handling_csrs, counter_csrs, reading_csrs, information_csrs, monitor_csr, csr_at, is_read_only, written_bits, fixed_bits};
-ghost use Rattle.rrs_machine.specs.Csrs.{pending_bits, kept, csr_value, keeping, csr_written, reset_file, cycle_counted, instruction_counted, retired_file, counter_after, retired_times, counted_beside};
+ghost use Rattle.std.specs.Prelude.{◌≡◌, ◌+◌, ◌-◌, ◌*◌, ◌/◌, ◌%◌, ◌^◌, ◌<◌, ◌≤◌, ◌==◌, ◌↔◌, ◌&&◌, IsTrue};
+ghost use Rattle.rrs_words.specs.CsrNumbers.{both, either, csr_at, misa_value, written_bits, fixed_bits, legal, machine_alone};
+ghost use Rattle.rrs_machine.specs.Csrs.{mode_number, mode_of, is_open, found_csr, pending_bits, kept, csr_value, keeping, csr_written, reset_file, cycle_counted, instruction_counted, retired_file, counter_after, retired_times, counted_beside};
 
 use rrs_instruction::arithmetic;
-use rrs_words::Csr;
+use rrs_words::{Csr, Profile};
+
+/// A privilege mode.
+#[derive(Debug, PartialEq, Clone, Copy)]
+pub enum Mode {
+    /// User mode, the lower one.
+    User,
+    /// Machine mode.
+    Machine,
+}
+
+impl Mode {
+    /// The mode as MPP has it: 0 for user mode, and 3 for machine mode.
+    pub fn number(self) -> u32
+        ensures number { result ≡ mode_number self }
+        ensures low { result < 4 }
+    {
+        match self {
+            Mode::User => 0,
+            Mode::Machine => 3,
+        }
+    }
+}
 
 /// What a hart keeps of its CSRs.
 ///
@@ -16,13 +39,21 @@ use rrs_words::Csr;
 /// stands here. So every value of this struct is a state of the hart.
 #[derive(Debug, PartialEq, Clone, Copy)]
 pub struct CsrFile {
-    /// `mstatus`: MIE is bit 3 and MPIE bit 7. MPP always reads 3.
+    /// What the hart has. No step changes it.
+    pub profile: Profile,
+    /// The mode that the hart is in. Without user mode it is machine mode, whatever stands here.
+    pub mode: Mode,
+    /// `mstatus`: MIE is bit 3 and MPIE bit 7. With user mode MPP, 0 or 3, is bits 12 and 11, MPRV
+    /// bit 17 and TW bit 21; without it MPP always reads 3.
     pub mstatus: u32,
     /// `mie`: MSIE is bit 3, MTIE bit 7 and MEIE bit 11.
     pub mie: u32,
     /// `mtvec`: the base of the handlers, a multiple of 4, and in bit 0 whether interrupts are
     /// vectored.
     pub mtvec: u32,
+    /// `mcounteren`: CY, TM and IR, bits 0, 1 and 2, show `cycle`, `time` and `instret` to user
+    /// mode.
+    pub mcounteren: u32,
     /// `mscratch`: a word for the handler.
     pub mscratch: u32,
     /// `mepc`: the pc of the instruction that was interrupted or raised the exception. Its two low
@@ -39,6 +70,8 @@ pub struct CsrFile {
     pub mcycle: u64,
     /// `minstret` and `minstreth`: the instructions that retired.
     pub minstret: u64,
+    /// The address that an `lr.w` reserved, if one did.
+    pub reservation: Option<u32>,
 }
 
 /// What a hart is told from outside, for a step: which interrupts are pending, and the time.
@@ -99,14 +132,25 @@ impl Inputs {
 }
 
 impl CsrFile {
-    /// The CSRs at reset.
+    /// The CSRs of a hart that has machine mode alone, at reset.
     pub fn new() -> Self
-        ensures { result ≡ reset_file }
+        ensures { result ≡ reset_file machine_alone }
+    {
+        CsrFile::with_profile(Profile::machine_alone())
+    }
+
+    /// The CSRs of a hart with a profile, at reset: in machine mode, with all registers 0 and no
+    /// reservation.
+    pub fn with_profile(profile: Profile) -> Self
+        ensures { result ≡ reset_file profile }
     {
         CsrFile {
+            profile,
+            mode: Mode::Machine,
             mstatus: 0,
             mie: 0,
             mtvec: 0,
+            mcounteren: 0,
             mscratch: 0,
             mepc: 0,
             mcause: 0,
@@ -114,6 +158,40 @@ impl CsrFile {
             mcountinhibit: 0,
             mcycle: 0,
             minstret: 0,
+            reservation: None,
+        }
+    }
+
+    /// The mode that the hart is in.
+    pub fn mode(&self) -> Mode
+        ensures { result ≡ mode_of self.now }
+    {
+        if self.profile.user_mode {
+            self.mode
+        } else {
+            Mode::Machine
+        }
+    }
+
+    /// Whether an instruction in this mode may access the CSR with this number, if there is one.
+    fn is_open(&self, mode: Mode, number: u32) -> bool
+        ensures { result ≡ is_open mode self.now number }
+    {
+        match mode {
+            Mode::Machine => true,
+            Mode::User => { number / 0x100 % 4 == 0 && (self.mcounteren >> (number % 32)) % 2 == 1 }
+        }
+    }
+
+    /// The register that an instruction finds by its number, or `None` where there is none or the
+    /// mode of the hart may not access it.
+    pub fn found(&self, number: u32) -> Option<Csr>
+        ensures { result ≡ found_csr self.now number }
+    {
+        if self.is_open(self.mode(), number) {
+            Csr::at(self.profile, number)
+        } else {
+            None
         }
     }
 
@@ -122,9 +200,10 @@ impl CsrFile {
         ensures { result ≡ kept csr self.now }
     {
         match csr {
-            Csr::Mstatus => self.mstatus,
+            Csr::Mstatus => Csr::Mstatus.legal(0, self.mstatus),
             Csr::Mie => self.mie,
             Csr::Mtvec => self.mtvec,
+            Csr::Mcounteren => self.mcounteren,
             Csr::Mscratch => self.mscratch,
             Csr::Mepc => self.mepc,
             Csr::Mcause => self.mcause,
@@ -134,7 +213,7 @@ impl CsrFile {
             Csr::Mcycleh => high_half(self.mcycle),
             Csr::Minstret => low_half(self.minstret),
             Csr::Minstreth => high_half(self.minstret),
-            Csr::Mip | Csr::Time | Csr::Timeh | Csr::Constant(_) => 0,
+            Csr::Misa | Csr::Mip | Csr::Time | Csr::Timeh | Csr::Constant(_) => 0,
         }
     }
 
@@ -143,13 +222,14 @@ impl CsrFile {
         ensures { result ≡ csr_value csr self.now inputs.now }
     {
         match csr {
+            Csr::Misa => self.profile.misa(),
             Csr::Mip => inputs.pending(),
             Csr::Time => low_half(inputs.time),
             Csr::Timeh => high_half(inputs.time),
             Csr::Constant(value) => value,
             _ => arithmetic::or(
-                csr.fixed_bits(),
-                arithmetic::and(self.kept(csr), csr.written_bits()),
+                csr.fixed_bits(self.profile),
+                arithmetic::and(self.kept(csr), csr.written_bits(self.profile)),
             ),
         }
     }
@@ -162,6 +242,7 @@ impl CsrFile {
             Csr::Mstatus => self.mstatus = value,
             Csr::Mie => self.mie = value,
             Csr::Mtvec => self.mtvec = value,
+            Csr::Mcounteren => self.mcounteren = value,
             Csr::Mscratch => self.mscratch = value,
             Csr::Mepc => self.mepc = value,
             Csr::Mcause => self.mcause = value,
@@ -171,16 +252,17 @@ impl CsrFile {
             Csr::Mcycleh => self.mcycle = of_halves(value, low_half(self.mcycle)),
             Csr::Minstret => self.minstret = of_halves(high_half(self.minstret), value),
             Csr::Minstreth => self.minstret = of_halves(value, low_half(self.minstret)),
-            Csr::Mip | Csr::Time | Csr::Timeh | Csr::Constant(_) => {}
+            Csr::Misa | Csr::Mip | Csr::Time | Csr::Timeh | Csr::Constant(_) => {}
         }
     }
 
     /// Writes a register, as an instruction does: bits that are not written stay as they always
-    /// are.
+    /// are, and MPP stays as it was where the value has 1 or 2 there.
     pub fn write(&mut self, csr: Csr, value: u32)
         ensures { self.new ≡ csr_written csr value self.old }
     {
-        self.keep(csr, arithmetic::and(value, csr.written_bits()));
+        let value = csr.legal(self.kept(csr), value);
+        self.keep(csr, arithmetic::and(value, csr.written_bits(self.profile)));
     }
 
     /// Counts a step in `mcycle`.

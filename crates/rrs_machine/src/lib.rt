@@ -1,8 +1,8 @@
 //! Machine mode, above `rrs_lib`'s machine: CSRs, traps, interrupts, steps, and their records.
 //!
-//! [step_machine] makes a step of a hart that has machine mode alone: RV32IM with Zicsr, Zifencei
-//! and Zicntr, by the RISC-V privileged specification 1.12. An instruction of the 48 rows does what
-//! the kit's own step does. What a step is, is written in `specs/MachineSteps.antt`, with the CSRs
+//! [step_machine] makes a step of a hart that has machine mode: RV32IM with Zicsr, Zifencei and
+//! Zicntr, by the RISC-V privileged specification 1.12. Its [Profile] says whether it has user mode
+//! too. An instruction of the 48 rows does what the kit's own step does. What a step is, is written in `specs/MachineSteps.antt`, with the CSRs
 //! in `specs/Csrs.antt` and the traps in `specs/Traps.antt`. The instructions on CSRs are those of
 //! `rrs_words`. [step_machine_retired] makes a step and its record, in the shape of RVFI, as
 //! `specs/MachineRecords.antt` says.
@@ -18,9 +18,9 @@ pub mod runs;
 pub mod traps;
 
 pub use cached::{ForeseeableSurroundings, Outlook, run_machine_cached};
-pub use csrs::{CsrFile, Inputs};
+pub use csrs::{CsrFile, Inputs, Mode};
 pub use machine::{MachineAnswer, step_machine};
 pub use retired::{CsrAccess, MachineRetired, step_machine_retired};
-pub use rrs_words::{Csr, SystemInstruction, SystemRow};
+pub use rrs_words::{Csr, Profile, SystemInstruction, SystemRow};
 pub use runs::{MachineEnd, Surroundings, run_machine};
 pub use traps::{Exception, Interrupt};

@@ -1,4 +1,4 @@
-//! A step of a hart that has machine mode.
+//! A step of a hart that has machine mode, alone or with user mode.
 
 ghost use Rattle.std.specs.Prelude.{◌≡◌, ℕ, ◌%◌, ◌<◌, ◌^◌, Bool, Some, None, Option, Ok, slice_index};
 ghost use Rattle.rrs_instruction.specs.Encodings.{HasRegisters, I, IsInRange};
@@ -10,13 +10,13 @@ ghost use Rattle.rrs_lib.specs.Steps.{Step, cleared};
 ghost use Rattle.rrs_lib.specs.Executor.{state_in, KeepsTheRest};
 ghost use Rattle.rrs_lib.specs.Accesses.{AccessesOf, accesses_of_row, Makes, MakesExactly};
 ghost use Rattle.rrs_machine.specs.declared.csrs.Inputs.{Inputs as InputsOfStep};
-ghost use Rattle.rrs_words.specs.CsrNumbers.{csr_at};
+ghost use Rattle.rrs_machine.specs.Csrs.{mode_of, found_csr};
 ghost use Rattle.rrs_words.specs.SystemInstructions.{csr_number, IsSystem};
-ghost use Rattle.rrs_machine.specs.MachineSteps.{machine_of, machine_in, ends, operand_of, file_updated, accessed, trapped, raised, raises, interrupted, csr_outcome, returned, passed, wait_answer, system_outcome, InstructionStep, MachineStep, IsOnlyMachineStep, AccessesOfMachineStep, IsNoSystem};
+ghost use Rattle.rrs_machine.specs.MachineSteps.{machine_of, machine_in, ends, operand_of, file_updated, accessed, trapped, raised, raises, interrupted, csr_outcome, returned, passed, wait_answer, is_permitted, permitted_outcome, system_outcome, InstructionStep, MachineStep, IsOnlyMachineStep, AccessesOfMachineStep, IsNoSystem};
 ghost use Rattle.rrs_machine.specs.Laws.{KeepsUnlessRetired, WritesNeither, instructions_after, cycles_after};
 ghost use Rattle.rrs_instruction.specs.Words.{bit};
 
-use crate::csrs::{CsrFile, Inputs};
+use crate::csrs::{CsrFile, Inputs, Mode};
 use crate::traps::{Exception, Interrupt, exception_of_fetch, exception_of_word};
 use rrs_lib::instruction::{Instruction, decode};
 use rrs_lib::instruction_executor::{InstructionExecutor, execute_parts, fetch_word};
@@ -175,12 +175,12 @@ fn execute_csr(
     ensures outcome { (bytes : ByteMap) (writable : ℕ → Bool)
         → ends (machine_of hart.new csrs.new bytes writable) result
         ≡ csr_outcome instruction.now.row instruction.now.fields word
-        (csr_at (csr_number instruction.now.fields)) inputs.now
+        (found_csr csrs.old (csr_number instruction.now.fields)) inputs.now
         (machine_of hart.old csrs.old bytes writable) }
     ensures entry_zero { slice_index hart.new.registers 0 ≡ slice_index hart.old.registers 0 }
 {
     let number = instruction.csr_number();
-    match Csr::at(number) {
+    match csrs.found(number) {
         Some(csr) => {
             if instruction.writes_csr() && is_read_only(number) {
                 return raise(hart, csrs, Exception::IllegalInstruction(word));
@@ -192,8 +192,19 @@ fn execute_csr(
     }
 }
 
-/// Executes an instruction that the 48 rows leave out.
-fn execute_system(
+/// Whether a mode has an instruction: user mode has no `mret`, and no `wfi` where TW is 1.
+fn is_permitted(row: SystemRow, mode: Mode, csrs: &CsrFile) -> bool
+    ensures { result ≡ is_permitted row mode csrs.now }
+{
+    match (row, mode) {
+        (SystemRow::Mret, Mode::User) => false,
+        (SystemRow::Wfi, Mode::User) => csrs.mstatus / 0x20_0000 % 2 != 1,
+        _ => true,
+    }
+}
+
+/// Executes an instruction that the 48 rows leave out and the mode has.
+fn execute_permitted(
     hart: &mut HartState,
     csrs: &mut CsrFile,
     inputs: &Inputs,
@@ -203,7 +214,7 @@ fn execute_system(
     requires { HasRegisters (I instruction.now.fields) }
     ensures outcome { (bytes : ByteMap) (writable : ℕ → Bool)
         → ends (machine_of hart.new csrs.new bytes writable) result
-        ≡ system_outcome instruction.now.row instruction.now.fields word inputs.now
+        ≡ permitted_outcome instruction.now.row instruction.now.fields word inputs.now
         (machine_of hart.old csrs.old bytes writable) }
     ensures entry_zero { slice_index hart.new.registers 0 ≡ slice_index hart.old.registers 0 }
 {
@@ -222,6 +233,28 @@ fn execute_system(
             MachineAnswer::Retired
         }
         _ => execute_csr(hart, csrs, inputs, instruction, word),
+    }
+}
+
+/// Executes an instruction that the 48 rows leave out.
+fn execute_system(
+    hart: &mut HartState,
+    csrs: &mut CsrFile,
+    inputs: &Inputs,
+    instruction: &SystemInstruction,
+    word: u32,
+) -> MachineAnswer
+    requires { HasRegisters (I instruction.now.fields) }
+    ensures outcome { (bytes : ByteMap) (writable : ℕ → Bool)
+        → ends (machine_of hart.new csrs.new bytes writable) result
+        ≡ system_outcome instruction.now.row instruction.now.fields word inputs.now
+        (machine_of hart.old csrs.old bytes writable) }
+    ensures entry_zero { slice_index hart.new.registers 0 ≡ slice_index hart.old.registers 0 }
+{
+    if is_permitted(instruction.row, csrs.mode(), csrs) {
+        execute_permitted(hart, csrs, inputs, instruction, word)
+    } else {
+        raise(hart, csrs, Exception::IllegalInstruction(word))
     }
 }
 
@@ -281,7 +314,10 @@ fn execute<M: Memory>(
                 raise(hart, csrs, Exception::InstructionMisaligned(end.pc))
             }
         }
-        Err(fault) => raise(hart, csrs, exception_of_word(word, fault)),
+        Err(fault) => {
+            let exception = exception_of_word(csrs.mode(), word, fault);
+            raise(hart, csrs, exception)
+        }
     }
 }
 
@@ -303,7 +339,10 @@ fn step_instruction<M: Memory>(
 {
     let word = match fetch_word(mem, hart.pc) {
         Ok(word) => word,
-        Err(fault) => return raise(hart, csrs, exception_of_fetch(fault)),
+        Err(fault) => {
+            let exception = exception_of_fetch(csrs.mode(), fault);
+            return raise(hart, csrs, exception);
+        }
     };
     match decode(word) {
         Some(instruction) => execute(mem, hart, csrs, &instruction, word),
@@ -315,8 +354,13 @@ fn step_instruction<M: Memory>(
 /// at the pc.
 ///
 /// Which interrupts are pending, and the time, are handed in for this step. An interrupt is taken
-/// where it is pending, `mie` enables it and MIE of `mstatus` is 1; of several the external one
-/// comes first, then the software one, then that of the timer. Then no instruction is executed.
+/// where it is pending, `mie` enables it, and MIE of `mstatus` is 1 or the hart is in user mode; of
+/// several the external one comes first, then the software one, then that of the timer. Then no
+/// instruction is executed.
+///
+/// Each trap goes to machine mode, and `mret` to the mode in MPP. In user mode `mret`, the CSRs of
+/// machine mode, the counters that `mcounteren` hides, and `wfi` where TW is 1 are illegal
+/// instructions.
 ///
 /// An exception is no error here: the hart takes the trap, and is at its handler. A jump or a taken
 /// branch to a misaligned address raises its exception at the jump, with no register written. A
@@ -355,10 +399,10 @@ pub fn step_machine<M: Memory>(
         → Step (state_in M.bytes M.writable executor.old)
         (state_in M.bytes M.writable executor.new) (Ok tt) }
     ensures minstret { bit csrs.old.mcountinhibit 2 ≡ 0
-        → WritesNeither Csr.Minstret Csr.Minstreth (state_in M.bytes M.writable executor.old)
+        → WritesNeither Csr.Minstret Csr.Minstreth (machine_in M.bytes M.writable executor.old csrs.old)
         → csrs.new.minstret ≡ instructions_after result csrs.old.minstret }
     ensures mcycle { bit csrs.old.mcountinhibit 0 ≡ 0
-        → WritesNeither Csr.Mcycle Csr.Mcycleh (state_in M.bytes M.writable executor.old)
+        → WritesNeither Csr.Mcycle Csr.Mcycleh (machine_in M.bytes M.writable executor.old csrs.old)
         → csrs.new.mcycle ≡ cycles_after result csrs.old.mcycle }
 {
     match csrs.interrupt_due(inputs) {

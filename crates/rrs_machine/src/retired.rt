@@ -26,7 +26,7 @@ use rrs_lib::{HartState, Memory};
 use rrs_trace::{
     MemoryAccess, Retired, TracedMemory, last_register, register_value, source_registers,
 };
-use rrs_words::{Csr, SystemInstruction, SystemRow, decode_system};
+use rrs_words::{Csr, Profile, SystemInstruction, SystemRow, decode_system};
 
 /// What was read and written of a CSR, under the names of RVFI (`rvfi_csr_*`), or none: then all
 /// fields are 0.
@@ -54,7 +54,7 @@ pub struct MachineRetired {
     pub valid: bool,
     /// Whether it is the first instruction of a handler.
     pub intr: bool,
-    /// The privilege mode: 3, which is machine mode.
+    /// The privilege mode before the step: 3 is machine mode, and 0 is user mode.
     pub mode: u8,
     /// What `mcause` has after an exception or an interrupt, else `None`.
     pub cause: Option<u32>,
@@ -145,13 +145,20 @@ fn reads_csr(instruction: &SystemInstruction) -> bool
 }
 
 /// What an instruction on a CSR reads and writes of it.
-fn access_of(instruction: &SystemInstruction, csr: Csr, old: u32, operand: u32) -> CsrAccess
-    ensures { result ≡ csr_access instruction.now.row instruction.now.fields csr old operand }
+fn access_of(
+    profile: Profile,
+    instruction: &SystemInstruction,
+    csr: Csr,
+    old: u32,
+    operand: u32,
+) -> CsrAccess
+    ensures { result
+        ≡ csr_access profile instruction.now.row instruction.now.fields csr old operand }
 {
     let is_read = reads_csr(instruction);
     let is_written = instruction.writes_csr();
-    let bits = csr.written_bits();
-    let new = instruction.row.updated(old, operand);
+    let bits = csr.written_bits(profile);
+    let new = csr.legal(old, instruction.row.updated(old, operand));
     CsrAccess {
         addr: instruction.csr_number(),
         rmask: if is_read { u32::MAX } else { 0 },
@@ -182,8 +189,8 @@ fn csr_of_instruction(
     requires { HasRegisters (I instruction.now.fields) }
     ensures of_csr { (s : State) (csr : TheCsr) → s.registers ≡ drop 1 registers.now
         → is_on_csr instruction.now.row ≡ true
-        → csr_at (csr_number instruction.now.fields) ≡ Some csr
-        → result ≡ csr_access instruction.now.row instruction.now.fields csr
+        → csr_at csrs.now.profile (csr_number instruction.now.fields) ≡ Some csr
+        → result ≡ csr_access csrs.now.profile instruction.now.row instruction.now.fields csr
         (csr_value csr csrs.now inputs.now)
         (operand_of instruction.now.row instruction.now.fields s) }
     ensures of_other { is_on_csr instruction.now.row ≡ false → result ≡ no_csr }
@@ -191,19 +198,20 @@ fn csr_of_instruction(
     if !is_on_csr(instruction.row) {
         return no_csr();
     }
-    let Some(csr) = Csr::at(instruction.csr_number()) else {
+    let Some(csr) = Csr::at(csrs.profile, instruction.csr_number()) else {
         return no_csr();
     };
     let old = csrs.read(csr, inputs);
-    access_of(instruction, csr, old, operand_of(instruction, registers))
+    let operand = operand_of(instruction, registers);
+    access_of(csrs.profile, instruction, csr, old, operand)
 }
 
 /// What a word accesses of a CSR.
 fn csr_of_word(word: u32, csrs: &CsrFile, inputs: &Inputs, registers: &[u32; 32]) -> CsrAccess
     ensures of_csr { (s : State) (row : TheRow) (f : IFields) (csr : TheCsr)
         → s.registers ≡ drop 1 registers.now → IsSystem word row f → is_on_csr row ≡ true
-        → csr_at (csr_number f) ≡ Some csr
-        → result ≡ csr_access row f csr (csr_value csr csrs.now inputs.now)
+        → csr_at csrs.now.profile (csr_number f) ≡ Some csr
+        → result ≡ csr_access csrs.now.profile row f csr (csr_value csr csrs.now inputs.now)
         (operand_of row f s) }
     ensures of_other { ((row : TheRow) (f : IFields) → IsSystem word row f
         → is_on_csr row ≡ false) → result ≡ no_csr }
@@ -389,11 +397,12 @@ pub fn step_machine_retired<M: Memory>(
         mem: seen.access,
     };
     let csr = csr_of_step(seen.insn, seen.answer, &before, inputs, &registers);
+    let mode = before.mode().number() as u8;
     let record = MachineRetired {
         retired,
         valid: is_instruction(seen.answer),
         intr: is_first && is_instruction(seen.answer),
-        mode: 3,
+        mode,
         cause: cause_of(seen.answer),
         csr,
     };

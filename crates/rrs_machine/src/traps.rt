@@ -1,12 +1,13 @@
 //! Exceptions and interrupts, and what they leave in the CSRs.
 
 ghost use Rattle.std.specs.Prelude.{◌≡◌, ◌+◌, ◌*◌, ◌/◌, ◌%◌, ◌^◌, ◌<◌};
-ghost use Rattle.rrs_machine.specs.Traps.{exception_code, exception_value, interrupt_code, is_ready, ready_interrupt, interrupt_due, trap_file, return_file, base_of, vector_of, exception_of_word, exception_of_fetch};
+ghost use Rattle.rrs_machine.specs.Traps.{exception_code, exception_value, interrupt_code, is_ready, ready_interrupt, is_enabled, interrupt_due, mode_bits, trap_file, previous_mode, returned_mprv, return_file, base_of, vector_of, call_from, exception_of_word, exception_of_fetch};
 
-use crate::csrs::{CsrFile, Inputs};
+use crate::csrs::{CsrFile, Inputs, Mode};
 use rrs_instruction::arithmetic;
 use rrs_lib::instruction_executor::InstructionException;
-use rrs_words::Csr;
+use rrs_words::csrs::previous;
+use rrs_words::{Csr, Profile};
 
 /// Why an instruction traps. Its address or its word is what `mtval` gets.
 #[derive(Debug, PartialEq, Clone, Copy)]
@@ -27,7 +28,9 @@ pub enum Exception {
     StoreMisaligned(u32),
     /// Code 7: a store's bytes are not all writable: the address.
     StoreFault(u32),
-    /// Code 11: the instruction is `ecall`. `mtval` is 0.
+    /// Code 8: the instruction is `ecall`, in user mode. `mtval` is 0.
+    UserEnvironmentCall,
+    /// Code 11: the instruction is `ecall`, in machine mode. `mtval` is 0.
     EnvironmentCall,
 }
 
@@ -56,6 +59,7 @@ impl Exception {
             Exception::LoadFault(_) => 5,
             Exception::StoreMisaligned(_) => 6,
             Exception::StoreFault(_) => 7,
+            Exception::UserEnvironmentCall => 8,
             Exception::EnvironmentCall => 11,
         }
     }
@@ -73,7 +77,7 @@ impl Exception {
             | Exception::LoadFault(value)
             | Exception::StoreMisaligned(value)
             | Exception::StoreFault(value) => value,
-            Exception::EnvironmentCall => 0,
+            Exception::UserEnvironmentCall | Exception::EnvironmentCall => 0,
         }
     }
 }
@@ -92,9 +96,19 @@ impl Interrupt {
     }
 }
 
-/// The exception of a word that the kit's machine ended a step with.
-pub(crate) fn exception_of_word(word: u32, fault: InstructionException) -> Exception
-    ensures { result ≡ exception_of_word word fault }
+/// The exception of an `ecall`, by the mode.
+fn call_from(mode: Mode) -> Exception
+    ensures { result ≡ call_from mode }
+{
+    match mode {
+        Mode::User => Exception::UserEnvironmentCall,
+        Mode::Machine => Exception::EnvironmentCall,
+    }
+}
+
+/// The exception of a word, in a mode, that the kit's machine ended a step with.
+pub(crate) fn exception_of_word(mode: Mode, word: u32, fault: InstructionException) -> Exception
+    ensures { result ≡ exception_of_word mode word fault }
 {
     match fault {
         InstructionException::AlignmentFault(address) => {
@@ -108,18 +122,31 @@ pub(crate) fn exception_of_word(word: u32, fault: InstructionException) -> Excep
         InstructionException::StoreAccessFault(address) => Exception::StoreFault(address),
         InstructionException::FetchError(address) => Exception::InstructionFault(address),
         InstructionException::IllegalInstruction(_, word) => Exception::IllegalInstruction(word),
-        InstructionException::EnvironmentCall(_) => Exception::EnvironmentCall,
+        InstructionException::EnvironmentCall(_) => call_from(mode),
         InstructionException::Breakpoint(address) => Exception::Breakpoint(address),
     }
 }
 
 /// The exception of a fetch.
-pub(crate) fn exception_of_fetch(fault: InstructionException) -> Exception
-    ensures { result ≡ exception_of_fetch fault }
+pub(crate) fn exception_of_fetch(mode: Mode, fault: InstructionException) -> Exception
+    ensures { result ≡ exception_of_fetch mode fault }
 {
     match fault {
         InstructionException::AlignmentFault(address) => Exception::InstructionMisaligned(address),
-        other => exception_of_word(0, other),
+        other => exception_of_word(mode, 0, other),
+    }
+}
+
+/// MPP, MPRV and TW, in their places in `mstatus`.
+fn mode_bits(profile: Profile, mpp: u32, mprv: u32, tw: u32) -> u32
+    requires { (mpp < 4) × (mprv < 2) × (tw < 2) }
+    ensures bits { result ≡ mode_bits profile mpp mprv tw }
+    ensures low { result < 2 ^ 22 }
+{
+    if profile.user_mode {
+        mpp * 0x800 + mprv * 0x2_0000 + tw * 0x20_0000
+    } else {
+        0
     }
 }
 
@@ -146,11 +173,21 @@ impl CsrFile {
         }
     }
 
-    /// The interrupt that the next step takes: none where MIE of `mstatus` is 0.
+    /// Whether a mode takes interrupts: machine mode where MIE of `mstatus` is 1, user mode always.
+    fn is_enabled(&self, mode: Mode) -> bool
+        ensures { result ≡ is_enabled mode self.now.mstatus }
+    {
+        match mode {
+            Mode::User => true,
+            Mode::Machine => self.mstatus / 8 % 2 == 1,
+        }
+    }
+
+    /// The interrupt that the next step takes: none in machine mode where MIE of `mstatus` is 0.
     pub fn interrupt_due(&self, inputs: &Inputs) -> Option<Interrupt>
         ensures { result ≡ interrupt_due self.now inputs.now }
     {
-        if self.mstatus / 8 % 2 == 1 {
+        if self.is_enabled(self.mode()) {
             self.ready_interrupt(inputs)
         } else {
             None
@@ -161,17 +198,56 @@ impl CsrFile {
     pub(crate) fn enter(&mut self, cause: u32, value: u32, pc: u32)
         ensures { self.new ≡ trap_file cause value pc self.old }
     {
-        self.mstatus = self.mstatus / 8 % 2 * 0x80;
-        self.mepc = arithmetic::and(pc, Csr::Mepc.written_bits());
+        let bits = mode_bits(
+            self.profile,
+            self.mode.number(),
+            self.mstatus / 0x2_0000 % 2,
+            self.mstatus / 0x20_0000 % 2,
+        );
+        self.mode = Mode::Machine;
+        self.mstatus = self.mstatus / 8 % 2 * 0x80 + bits;
+        self.mepc = arithmetic::and(pc, Csr::Mepc.written_bits(self.profile));
         self.mcause = cause;
         self.mtval = value;
+    }
+
+    /// The mode that a return from a trap goes to.
+    fn previous_mode(&self) -> Mode
+        ensures { result ≡ previous_mode self.now }
+    {
+        if !self.profile.user_mode {
+            return Mode::Machine;
+        }
+        match previous(self.mstatus) {
+            3 => Mode::Machine,
+            _ => Mode::User,
+        }
+    }
+
+    /// MPRV after a return from a trap to a mode.
+    fn returned_mprv(&self, mode: Mode) -> u32
+        ensures field { result ≡ returned_mprv mode self.now }
+        ensures low { result < 2 }
+    {
+        match mode {
+            Mode::User => 0,
+            Mode::Machine => self.mstatus / 0x2_0000 % 2,
+        }
     }
 
     /// Leaves a trap.
     pub(crate) fn leave(&mut self)
         ensures { self.new ≡ return_file self.old }
     {
-        self.mstatus = 0x80 + self.mstatus / 0x80 % 2 * 8;
+        let mode = self.previous_mode();
+        let bits = mode_bits(
+            self.profile,
+            Mode::User.number(),
+            self.returned_mprv(mode),
+            self.mstatus / 0x20_0000 % 2,
+        );
+        self.mode = mode;
+        self.mstatus = 0x80 + self.mstatus / 0x80 % 2 * 8 + bits;
     }
 
     /// The base of the handlers, where an exception goes.

@@ -1,10 +1,10 @@
 //! Packets for firmware on a board, and what they are answered.
 
 use crate::packets::wanted;
+use rrs_board::memory::Ram;
 use rrs_board::{Board, BoardEnd, BoardError, BoardEvent, TerminalError, run_at_terminal};
 use rrs_board_gdb::{BoardSession, serve};
 use rrs_gdb::{Link, LinkError, encode};
-use rrs_lib::memories::VecMemory;
 use std::alloc::{AllocError, Global};
 use std::test::Fail;
 
@@ -40,6 +40,21 @@ const FIRMWARE: [u32; 27] = [
     0x0000_006f, // 68: jal x0, 0x68
 ];
 
+/// A board with the firmware as its RAM, whose hart is at an address.
+fn firmware_at(alloc: Global, pc: u32) -> Result<Board, AllocError> {
+    let mut image = Vec::new(alloc);
+    for word in FIRMWARE {
+        image.extend_from_slice(&word.to_le_bytes())?;
+    }
+    match Board::load_image(alloc, &image, FIRMWARE.len()) {
+        Ok(mut board) => {
+            board.hart.pc = pc;
+            Ok(board)
+        }
+        Err(_) => Ok(Board::new(Ram::new(alloc, 0)?, pc)),
+    }
+}
+
 /// What the stub sends for packets, whose payloads stand with a bar between, where a `continue`
 /// makes so many steps at most, and how it ends. The UART receives `xyz`.
 fn answers_to(
@@ -52,7 +67,7 @@ fn answers_to(
         let frame = encode(alloc, payload.as_bytes())?;
         input.extend_from_slice(&frame)?;
     }
-    let board = Board::new(VecMemory::new(FIRMWARE.to_vec(alloc)?), 0x8000_0000);
+    let board = firmware_at(alloc, 0x8000_0000)?;
     let mut session = BoardSession::new(alloc, board, b"xyz", limit);
     let mut output = Vec::new(alloc);
     let end = served(alloc, &mut session, &input, &mut output);
@@ -305,7 +320,7 @@ fn at_terminal(
     mut input: &[u8],
     output: &mut Vec<u8>,
 ) -> Result<Result<Option<BoardEvent>, TerminalError>, AllocError> {
-    let mut board = Board::new(VecMemory::new(FIRMWARE.to_vec(alloc)?), pc);
+    let mut board = firmware_at(alloc, pc)?;
     Ok(
         match run_at_terminal(&mut board, 10_000, false, &mut input, output) {
             Ok(end) => Ok(end.event),

@@ -2,15 +2,21 @@
 
 use crate::steps::{START, holds_at, step_word};
 use rrs_lib::HartState;
-use rrs_machine::{CsrFile, Exception, Inputs, MachineAnswer};
+use rrs_machine::{CsrFile, Exception, Inputs, MachineAnswer, Mode, Profile};
 use std::alloc::{AllocError, Global};
 use std::test::Fail;
 
 /// What the hart keeps before each instruction. Both counters stand still.
 const BEFORE: CsrFile = CsrFile {
+    profile: Profile {
+        atomics: false,
+        user_mode: false,
+    },
+    mode: Mode::Machine,
     mstatus: 0x80,
     mie: 0x800,
     mtvec: 0x8000_0101,
+    mcounteren: 0,
     mscratch: 0x1234_5678,
     mepc: 0x8000_0abc,
     mcause: 0x8000_000b,
@@ -18,6 +24,7 @@ const BEFORE: CsrFile = CsrFile {
     mcountinhibit: 5,
     mcycle: 0x1111_2222_3333_4444,
     minstret: 0x5555_6666_7777_8888,
+    reservation: None,
 };
 
 /// What it is told.

@@ -1,10 +1,11 @@
-//! 10,000 generated programs, beside a model that is written from the specifications:
-//! `examples/machine/model.py` makes the same programs and prints the table of this test.
+//! 20,000 generated programs, half of them on a hart with user mode, beside a model that is written
+//! from the specifications: `examples/machine/model.py` makes the same programs and prints the tables
+//! of these tests.
 
 use crate::steps::{holds_at, step_over};
 use rrs_lib::HartState;
 use rrs_lib::memories::VecMemory;
-use rrs_machine::{CsrFile, Inputs};
+use rrs_machine::{CsrFile, Inputs, Mode, Profile};
 use std::alloc::{AllocError, Global};
 use std::test::Fail;
 
@@ -17,7 +18,7 @@ const STEPS: u64 = 24;
 /// How many words its memory has, all of which are generated.
 const WORDS: usize = 64;
 
-/// What the model answers: a checksum of what 500 programs left.
+/// What the model answers: a checksum of what 500 programs left, with machine mode alone.
 const CHECKSUMS: [u32; 20] = [
     0x6f8f_9641,
     0xde52_f601,
@@ -45,6 +46,36 @@ const CHECKSUMS: [u32; 20] = [
 const NUMBERS: [u32; 24] = [
     0x300, 0x301, 0x304, 0x305, 0x310, 0x320, 0x340, 0x341, 0x342, 0x343, 0x344, 0xb00, 0xb02,
     0xb80, 0xb82, 0xb03, 0x323, 0xb9f, 0xc00, 0xc01, 0xc02, 0xc81, 0xf14, 0x180,
+];
+
+/// The same on a hart with user mode.
+const USER_CHECKSUMS: [u32; 20] = [
+    0x4b56_e505,
+    0xf8d7_d2ce,
+    0xec2f_adaa,
+    0x2ed5_1248,
+    0xcd28_5127,
+    0xbff1_1417,
+    0xf2f6_be48,
+    0x4fc0_e93e,
+    0xa605_2139,
+    0x8baa_e1fd,
+    0xe26d_b76f,
+    0xab77_4c7c,
+    0x3f9e_0bb6,
+    0x8c06_6620,
+    0x0135_c64e,
+    0x263b_1211,
+    0x1f7f_1694,
+    0xd728_294c,
+    0xea8a_2215,
+    0x3840_77c5,
+];
+
+/// The CSRs of the programs on a hart with user mode.
+const USER_NUMBERS: [u32; 24] = [
+    0x300, 0x300, 0x300, 0x301, 0x304, 0x305, 0x306, 0x306, 0x30a, 0x31a, 0x320, 0x340, 0x341,
+    0x342, 0x343, 0x344, 0xb00, 0xb02, 0xc00, 0xc01, 0xc02, 0xc80, 0xc82, 0xf14,
 ];
 
 /// Pseudo-random numbers of 24 bits: a linear congruence modulo 2^32.
@@ -84,8 +115,9 @@ fn b_type(imm: u32, rs2: u32, rs1: u32, funct3: u32) -> u32 {
 }
 
 /// An instruction on a CSR.
-fn csr_word(a: u32, rs1: u32, c: u32, rd: u32) -> u32 {
-    let number = NUMBERS.get(c as usize % 24).copied().unwrap_or(0);
+fn csr_word(user_mode: bool, a: u32, rs1: u32, c: u32, rd: u32) -> u32 {
+    let numbers = if user_mode { USER_NUMBERS } else { NUMBERS };
+    let number = numbers.get(c as usize % 24).copied().unwrap_or(0);
     let funct3 = [1, 2, 3, 5, 6, 7]
         .get(a as usize / 8 % 6)
         .copied()
@@ -94,17 +126,17 @@ fn csr_word(a: u32, rs1: u32, c: u32, rd: u32) -> u32 {
 }
 
 /// An instruction of sixteen kinds.
-fn word_of(numbers: &mut Numbers) -> u32 {
+fn word_of(user_mode: bool, numbers: &mut Numbers) -> u32 {
     let kind = numbers.next() % 16;
     let (a, b, c) = (numbers.next(), numbers.next(), numbers.next());
-    word_by(kind, a, b, c)
+    word_by(user_mode, kind, a, b, c)
 }
 
 /// An instruction of this kind, by three numbers.
-fn word_by(kind: u32, a: u32, b: u32, c: u32) -> u32 {
+fn word_by(user_mode: bool, kind: u32, a: u32, b: u32, c: u32) -> u32 {
     let (rd, rs1) = (a % 8, b % 8);
     match kind {
-        0..=4 => csr_word(a, rs1, c, rd),
+        0..=4 => csr_word(user_mode, a, rs1, c, rd),
         5 => i_type(c % 4096, rs1, 0, rd, 0x13),
         6 => ((c % 8) << 20) | (rs1 << 15) | (rd << 7) | 0x33,
         7 => {
@@ -123,10 +155,14 @@ fn word_by(kind: u32, a: u32, b: u32, c: u32) -> u32 {
 }
 
 /// The memory of a program.
-pub fn memory_of(alloc: Global, numbers: &mut Numbers) -> Result<VecMemory, AllocError> {
+pub fn memory_of(
+    alloc: Global,
+    user_mode: bool,
+    numbers: &mut Numbers,
+) -> Result<VecMemory, AllocError> {
     let mut words = Vec::with_capacity(alloc, WORDS)?;
     for _ in 0..WORDS {
-        words.push(word_of(numbers))?;
+        words.push(word_of(user_mode, numbers))?;
     }
     Ok(VecMemory::new(words))
 }
@@ -142,9 +178,28 @@ pub fn hart_of(numbers: &mut Numbers) -> HartState {
     hart
 }
 
+/// The mode, `mcounteren` and MPP of a program on a hart with user mode. In `mstatus` two more bits
+/// are MPRV and TW.
+fn take_mode(csrs: &mut CsrFile, numbers: &mut Numbers) {
+    let told = numbers.next();
+    csrs.mode = if told % 2 == 0 {
+        Mode::User
+    } else {
+        Mode::Machine
+    };
+    csrs.mcounteren = told / 2 % 8;
+    if told / 0x10 % 2 == 1 {
+        csrs.mstatus |= 0x1800;
+    }
+    csrs.mstatus |= told & 0x22_0000;
+}
+
 /// The CSRs of a program.
-pub fn csrs_of(numbers: &mut Numbers) -> CsrFile {
-    let mut csrs = CsrFile::new();
+pub fn csrs_of(user_mode: bool, numbers: &mut Numbers) -> CsrFile {
+    let mut csrs = CsrFile::with_profile(Profile {
+        atomics: false,
+        user_mode,
+    });
     csrs.mstatus = numbers.next() & 0x88;
     csrs.mie = numbers.next() & 0x888;
     let base = numbers.next() % 32 * 4;
@@ -152,6 +207,9 @@ pub fn csrs_of(numbers: &mut Numbers) -> CsrFile {
     csrs.mepc = numbers.next() % 32 * 4;
     csrs.mcycle = u64::from(numbers.next()) << 20;
     csrs.minstret = u64::from(numbers.next()) << 20;
+    if user_mode {
+        take_mode(&mut csrs, numbers);
+    }
     csrs
 }
 
@@ -204,25 +262,35 @@ fn with_values(checksum: u32, values: &[u32]) -> u32 {
 }
 
 /// Runs a program, and goes on with a checksum of what it left.
-fn run_program(alloc: Global, numbers: &mut Numbers, checksum: u32) -> Result<u32, AllocError> {
-    let mut memory = memory_of(alloc, numbers)?;
+fn run_program(
+    alloc: Global,
+    user_mode: bool,
+    numbers: &mut Numbers,
+    checksum: u32,
+) -> Result<u32, AllocError> {
+    let mut memory = memory_of(alloc, user_mode, numbers)?;
     let mut hart = hart_of(numbers);
-    let mut csrs = csrs_of(numbers);
+    let mut csrs = csrs_of(user_mode, numbers);
     for step in 0..STEPS {
         let inputs = inputs_of(numbers, step);
         step_over(&mut memory, &mut hart, &mut csrs, &inputs);
     }
     let of_registers = with_values(checksum, &hart.registers[1..]);
     let of_hart = with_csrs(mixed(of_registers, hart.pc), &csrs);
-    Ok(with_values(of_hart, &memory.mem))
+    let of_mode = if user_mode {
+        with_values(of_hart, &[csrs.mode().number(), csrs.mcounteren])
+    } else {
+        of_hart
+    };
+    Ok(with_values(of_mode, &memory.mem))
 }
 
 /// A checksum of what the programs of a seed left.
-fn checksum_of(alloc: Global, seed: u32) -> Result<u32, AllocError> {
+fn checksum_of(alloc: Global, user_mode: bool, seed: u32) -> Result<u32, AllocError> {
     let mut numbers = Numbers { state: seed };
     let mut checksum = 2_166_136_261;
     for _ in 0..PROGRAMS {
-        checksum = run_program(alloc, &mut numbers, checksum)?;
+        checksum = run_program(alloc, user_mode, &mut numbers, checksum)?;
     }
     Ok(checksum)
 }
@@ -232,7 +300,18 @@ fn generated_programs(rt: HostRuntime) -> Result<(), Fail> {
     let mut seed: u32 = 0;
     for wanted in CHECKSUMS {
         seed = seed.wrapping_add(1);
-        let checksum = checksum_of(rt.alloc(), seed)?;
+        let checksum = checksum_of(rt.alloc(), false, seed)?;
+        holds_at(&rt, seed, checksum == wanted);
+    }
+    Ok(())
+}
+
+#[test]
+fn generated_programs_with_user_mode(rt: HostRuntime) -> Result<(), Fail> {
+    let mut seed: u32 = 0;
+    for wanted in USER_CHECKSUMS {
+        seed = seed.wrapping_add(1);
+        let checksum = checksum_of(rt.alloc(), true, seed)?;
         holds_at(&rt, seed, checksum == wanted);
     }
     Ok(())

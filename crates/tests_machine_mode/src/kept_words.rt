@@ -249,12 +249,13 @@ fn in_space(alloc: Global, memory: VecMemory) -> Result<MemorySpace<VecMemory>, 
     }
 }
 
-/// The memory and the machine of a generated program.
+/// The memory and the machine of a generated program. Each second hart has user mode.
 fn generated(alloc: Global, seed: u32, pulse: Pulse) -> Result<(VecMemory, Machine), AllocError> {
     let mut numbers = Numbers { state: seed };
-    let memory = memory_of(alloc, &mut numbers)?;
+    let user_mode = seed % 2 == 1;
+    let memory = memory_of(alloc, user_mode, &mut numbers)?;
     let hart = hart_of(&mut numbers);
-    let csrs = csrs_of(&mut numbers);
+    let csrs = csrs_of(user_mode, &mut numbers);
     Ok((memory, Machine { hart, csrs, pulse }))
 }
 

@@ -2,7 +2,7 @@
 
 use crate::steps::{QUIET, START, holds_at, step_word};
 use rrs_lib::HartState;
-use rrs_machine::{CsrFile, Inputs, Interrupt, MachineAnswer};
+use rrs_machine::{CsrFile, Inputs, Interrupt, MachineAnswer, Mode, Profile};
 use std::alloc::{AllocError, Global};
 use std::test::Fail;
 
@@ -195,6 +195,143 @@ fn mret_goes_back(rt: HostRuntime) -> Result<(), Fail> {
         let ((answer, pc, _x5), (_mcause, _mtval, _mepc, status), counted) = left;
         let is_left = (answer, pc, status) == (MachineAnswer::Retired, 0x1234, after);
         holds_at(&rt, mstatus, is_left && counted == (1, 1));
+    }
+    Ok(())
+}
+
+/// CSRs of a hart with user mode, in a mode, with the handlers at 0x40.
+fn csrs_in(mode: Mode, mstatus: u32, mcounteren: u32) -> CsrFile {
+    let mut csrs = CsrFile::with_profile(Profile {
+        atomics: false,
+        user_mode: true,
+    });
+    csrs.mode = mode;
+    csrs.mstatus = mstatus;
+    csrs.mcounteren = mcounteren;
+    csrs.mtvec = 0x40;
+    csrs
+}
+
+/// A word in user mode, `mstatus` and `mcounteren`, and the cause of its exception, or 0 where the
+/// next instruction follows.
+static IN_USER_MODE: [(u32, u32, u32, u32); 24] = [
+    (0x0000_0013, 8, 0, 0), // addi x0, x0, 0
+    (0x0000_0073, 8, 0, 8), // ecall
+    (0x0000_0073, 0x22_0000, 0, 8), // ecall, with MPRV and TW
+    (0x0010_0073, 8, 0, 3), // ebreak
+    (0x3020_0073, 0x1880, 0, 2), // mret
+    (0x1050_0073, 8, 0, 0), // wfi
+    (0x1050_0073, 0x20_0000, 0, 2), // wfi, with TW
+    (0x0000_100f, 8, 0, 0), // fence.i
+    (0x3000_22f3, 8, 7, 2), // csrrs x5, mstatus, x0
+    (0x3400_1073, 8, 7, 2), // csrrw x0, mscratch, x0
+    (0x3060_22f3, 8, 7, 2), // csrrs x5, mcounteren, x0
+    (0xb000_22f3, 8, 7, 2), // csrrs x5, mcycle, x0
+    (0xf140_22f3, 8, 7, 2), // csrrs x5, mhartid, x0
+    (0xc000_22f3, 8, 6, 2), // csrrs x5, cycle, x0
+    (0xc000_22f3, 8, 1, 0),
+    (0xc010_22f3, 8, 5, 2), // csrrs x5, time, x0
+    (0xc010_22f3, 8, 2, 0),
+    (0xc020_22f3, 8, 3, 2), // csrrs x5, instret, x0
+    (0xc020_22f3, 8, 4, 0),
+    (0xc800_22f3, 8, 6, 2), // csrrs x5, cycleh, x0
+    (0xc800_22f3, 8, 1, 0),
+    (0xc820_22f3, 8, 3, 2), // csrrs x5, instreth, x0
+    (0xc820_22f3, 8, 4, 0),
+    (0xc000_12f3, 8, 7, 2), // csrrw x5, cycle, x0: it is read only
+];
+
+#[test]
+fn user_mode_has_its_instructions(rt: HostRuntime) -> Result<(), Fail> {
+    for &(word, mstatus, mcounteren, cause) in &IN_USER_MODE {
+        let mut hart = hart_at(START, 0, 0);
+        let mut csrs = csrs_in(Mode::User, mstatus, mcounteren);
+        step_word(rt.alloc(), word, &mut hart, &mut csrs, &QUIET)?;
+        let kept = mstatus & 0x22_0000;
+        let wanted = if cause == 0 {
+            (START + 4, Mode::User, mstatus, 0)
+        } else {
+            (0x40, Mode::Machine, kept | (mstatus / 8 % 2 * 0x80), START)
+        };
+        let left = (hart.pc, csrs.mode, csrs.mstatus, csrs.mepc);
+        holds_at(&rt, word, left == wanted && csrs.mcause == cause);
+    }
+    Ok(())
+}
+
+/// A mode, `mstatus`, whether an interrupt that `mie` enables is taken, and `mstatus` then.
+static ENABLED: [(Mode, u32, bool, u32); 4] = [
+    (Mode::User, 0, true, 0),
+    (Mode::User, 8, true, 0x80),
+    (Mode::Machine, 0, false, 0),
+    (Mode::Machine, 8, true, 0x1880),
+];
+
+#[test]
+fn mie_masks_nothing_in_user_mode(rt: HostRuntime) -> Result<(), Fail> {
+    for &(mode, mstatus, is_taken, after) in &ENABLED {
+        let mut hart = hart_at(START, 0, 0);
+        let mut csrs = csrs_in(mode, mstatus, 0);
+        csrs.mie = 0x80;
+        let told = pending(0x880);
+        let answer = step_word(rt.alloc(), 0x0000_0013, &mut hart, &mut csrs, &told)?;
+        let taken = answer == MachineAnswer::Interrupted(Interrupt::Timer);
+        let left = (taken, csrs.mstatus, csrs.mode);
+        holds_at(&rt, mstatus, left == (is_taken, after, Mode::Machine));
+    }
+    Ok(())
+}
+
+/// `mstatus` before an `mret` on a hart with user mode, the mode and `mstatus` after it.
+static MODE_RETURNS: [(u32, Mode, u32); 7] = [
+    (0x1880, Mode::Machine, 0x88),
+    (0x1808, Mode::Machine, 0x80),
+    (0x0080, Mode::User, 0x88),
+    (0x0880, Mode::User, 0x88),
+    (0x02_0080, Mode::User, 0x88),
+    (0x02_1880, Mode::Machine, 0x02_0088),
+    (0x22_0000, Mode::User, 0x20_0080),
+];
+
+#[test]
+fn mret_goes_to_the_mode_in_mpp(rt: HostRuntime) -> Result<(), Fail> {
+    for &(mstatus, mode, after) in &MODE_RETURNS {
+        let mut hart = hart_at(START, 0, 0);
+        let mut csrs = csrs_in(Mode::Machine, mstatus, 0);
+        csrs.mepc = 0x1237;
+        step_word(rt.alloc(), 0x3020_0073, &mut hart, &mut csrs, &QUIET)?;
+        let left = (hart.pc, csrs.mode, csrs.mstatus);
+        holds_at(&rt, mstatus, left == (0x1234, mode, after));
+    }
+    Ok(())
+}
+
+/// A CSR of a hart with user mode, what `mstatus` has before, a value that is written, and what is
+/// read then. MPP keeps its value where 1 or 2 is written.
+static WRITTEN: [(u32, u32, u32, u32); 10] = [
+    (0x300, 0x1800, 0x0800, 0x1800),
+    (0x300, 0, 0x1000, 0),
+    (0x300, 0x1800, 0, 0),
+    (0x300, 0, 0x1800, 0x1800),
+    (0x300, 0, 0xffff_ffff, 0x22_1888),
+    (0x300, 0x22_1888, 0xffff_e7ff, 0x22_0088),
+    (0x301, 0, 0, 0x4010_1100),
+    (0x306, 0, 0xffff_ffff, 7),
+    (0x30a, 0, 0xffff_ffff, 0),
+    (0x31a, 0, 0xffff_ffff, 0),
+];
+
+#[test]
+fn csrs_of_user_mode(rt: HostRuntime) -> Result<(), Fail> {
+    for &(number, mstatus, value, read) in &WRITTEN {
+        let mut hart = hart_at(START, 0, value);
+        let mut csrs = csrs_in(Mode::Machine, mstatus, 0);
+        let write = (number << 20) | 0x3_1073;
+        step_word(rt.alloc(), write, &mut hart, &mut csrs, &QUIET)?;
+        hart.pc = START;
+        let look = (number << 20) | 0x22f3;
+        step_word(rt.alloc(), look, &mut hart, &mut csrs, &QUIET)?;
+        holds_at(&rt, number, hart.registers[5] == read);
     }
     Ok(())
 }

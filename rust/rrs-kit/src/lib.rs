@@ -51,7 +51,11 @@ pub mod machine {
     /// The words and texts of the instructions of machine mode, and records of its steps.
     pub mod system {
         pub use rrs_machine::{CsrAccess, MachineRetired, step_machine_retired};
-        pub use rrs_words::{SystemText, encode_system, laws, system_text};
+        pub use rrs_words::{
+            AtomicInstruction, AtomicRow, LayerInstruction, LayerText, atomic_named, atomic_text,
+            decode_atomic, decode_layer, encode_atomic, encode_layer, encode_system, laws,
+            layer_text, system_text,
+        };
     }
 }
 

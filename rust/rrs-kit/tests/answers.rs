@@ -13,7 +13,7 @@ use rrs_kit::instruction::{Instruction, decode};
 use rrs_kit::instruction_executor::{InstructionException, InstructionExecutor};
 use rrs_kit::machine::csrs::is_read_only;
 use rrs_kit::machine::system::{MachineRetired, step_machine_retired};
-use rrs_kit::machine::{Csr, CsrFile, Inputs, MachineAnswer};
+use rrs_kit::machine::{Csr, CsrFile, Inputs, MachineAnswer, Profile};
 use rrs_kit::memories::SliceMemory;
 use rrs_kit::trace::{
     DataRequest, Retired, StopEnd, StopReason, complete, request, run_until, run_until_with,
@@ -214,6 +214,7 @@ fn csrs_of(text: &str) -> (CsrFile, u64) {
         mcountinhibit,
         mcycle,
         minstret,
+        ..CsrFile::new()
     };
     (file, trapped)
 }
@@ -237,7 +238,7 @@ fn answer_csr(name: &str, line: &mut Line) -> Option<String> {
         return None;
     }
     let (number, second) = (hex(line.word()), hex(line.word()));
-    let csr = Csr::at(number);
+    let csr = Csr::at(Profile::machine_alone(), number);
     if name == "csr" {
         let inputs = inputs_of(second, decimal(line.word()));
         let (file, _) = csrs_of(line.word());

@@ -53,8 +53,8 @@ const FIRMWARE: [u32; 20] = [
 #[test]
 fn the_board_has_its_devices_at_their_addresses() {
     use rrs_kit::machine::board::{Board, BoardEnd, BoardEvent, run_at_terminal};
-    use rrs_kit::memories::VecMemory;
-    let mut board = Board::new(VecMemory::new(FIRMWARE.to_vec()), 0x8000_0000);
+    let image: Vec<u8> = FIRMWARE.iter().flat_map(|word| word.to_le_bytes()).collect();
+    let mut board = Board::load_image(Global, &image, FIRMWARE.len()).unwrap();
     let mut output = Vec::new();
     let end = run_at_terminal(&mut board, 9999, false, &mut &b"i"[..], &mut output);
     let steps = 7 + 3 * 1001 + 10;

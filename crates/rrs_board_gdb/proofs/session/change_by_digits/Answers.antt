@@ -9,7 +9,7 @@ pub returns-in_default-clause-set : goal.returns-in_default-clause-set
 returns-in_default-clause-set c = λ values is. record {
   set = λ place long some. absurd (nothing_decoded _ values (c.in_default.ensures.none place) is some);
   none = λ _. refl;
-  refused = λ _. c.in_ok-push_invalid.ensures;
+  refused = λ _. c.in_ok-push_invalid.ensures.error;
 }
 
 pub returns-in-Ok-clause-set : goal.returns-in-Ok-clause-set

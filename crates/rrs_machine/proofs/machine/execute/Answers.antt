@@ -6,6 +6,7 @@ use Rattle.rrs_lib.specs.Accesses.{Makes}
 use Rattle.rrs_lib.proofs.Keeping.{Step-fault}
 use Rattle.rrs_machine.specs.declared.traps.Exception.TheVariants.{InstructionMisaligned}
 use Rattle.rrs_machine.specs.declared.machine.MachineAnswer.TheVariants.{Raised}
+use Rattle.rrs_machine.specs.Traps.{exception_of_word}
 use Rattle.rrs_machine.specs.MachineSteps.{machine, machine_of, raised, Retires, Strays}
 use Rattle.rrs_machine.proofs.MachineStepping.{faulted, next_stands, raised-cleared}
 use Rattle.rrs_machine.proofs.Straying.{strays_apart}
@@ -56,8 +57,8 @@ returns-in-Err-clause-step g c = λ inputs.
     let kept : u ≡ cleared s = Step-fault s u (Err c.in-Err.fault) step in
     let same : cleared h ≡ cleared s =
     ap (λ (y : State). record { registers = y.registers; pc = hart.pc; last = None; bytes = y.bytes; writable = y.writable }) kept in
-    let x = c.exception_of_word.ensures in
+    let x = c.exception_of_word-exception.ensures ∙ ap (λ m. exception_of_word m w c.in-Err.fault) c.mode.ensures in
     faulted inputs (machine s csrs) _ _ u c.in-Err.fault w step (next_stands s w c.requires.aligned c.requires.word)
     (λ row f illegal is. illegal _ _ c.requires.is)
-    (c.raise-in-Err.ensures.raised bytes writable ∙ raised-cleared c.exception_of_word.result h s csrs same ∙ ap (λ y. raised y (machine s csrs)) x)
+    (c.raise-in-Err.ensures.raised bytes writable ∙ raised-cleared c.exception_of_word-exception.result h s csrs same ∙ ap (λ y. raised y (machine s csrs)) x)
     (c.raise-in-Err.ensures.answer ∙ ap Raised x)

@@ -7,6 +7,7 @@ use Rattle.rrs_lib.specs.Steps.{cleared}
 use Rattle.rrs_lib.specs.Accesses.{accesses_of_row, fetch, Makes}
 use Rattle.rrs_lib.proofs.Making.{accesses_of_legal, accesses_of_illegal, exactly-fetch, Makes-append}
 use Rattle.rrs_machine.specs.declared.machine.MachineAnswer.TheVariants.{Raised}
+use Rattle.rrs_machine.specs.Traps.{exception_of_fetch}
 use Rattle.rrs_machine.specs.MachineSteps.{machine_of, raised}
 use Rattle.rrs_machine.proofs.MachineStepping.{fetch_faulted, fetch_made, step_from}
 use Rattle.rrs_machine.proofs.machine.step_instruction.Goals as goal
@@ -18,7 +19,7 @@ returns-in-Err-clause-step g c =
     let csrs = c.args.csrs.now in
     let new = c.fetch_word.new.mem in
     let s = state_of hart (memory.bytes c.args.mem.now) (memory.writable c.args.mem.now) in
-    let x = c.exception_of_fetch.ensures in
+    let x = c.exception_of_fetch-exception.ensures ∙ ap (λ m. exception_of_fetch m c.in-Err.fault) c.mode.ensures in
     fetch_faulted c.args.inputs.now (machine_of hart csrs (memory.bytes c.args.mem.now) (memory.writable c.args.mem.now)) _ _ (cleared s) c.in-Err.fault
     (c.in-Err.ensures.fault s refl refl) (c.in-Err.ensures.none s refl refl)
     (c.raise.ensures.raised (memory.bytes new) (memory.writable new)

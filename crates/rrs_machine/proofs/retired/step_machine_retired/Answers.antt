@@ -1,6 +1,7 @@
 -- What was seen is what is told.
-use Rattle.std.proofs.Common.{rules, refl, subst}
+use Rattle.std.proofs.Common.{rules, refl, subst, ap, ◌∙◌}
 use Rattle.rrs_lib.specs.Machine.{state_of}
+use Rattle.rrs_machine.specs.Csrs.{mode_number}
 use Rattle.rrs_machine.specs.MachineSteps.{machine}
 use Rattle.rrs_machine.specs.MachineRecords.{HasSourcesOf, HasCsrAccess}
 use Rattle.rrs_machine.proofs.MachineStepping.{MachineStep-unique}
@@ -34,7 +35,7 @@ returns-clause-retires g c =
     record {
       valid_is = search rules;
       intr_is = search rules;
-      mode_is = refl;
+      mode_is = c.number-mode.ensures.number ∙ ap mode_number c.mode.ensures;
       cause_is = search rules;
       order_is = refl;
       insn_is = seen.insn;
