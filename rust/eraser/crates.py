@@ -18,7 +18,7 @@ NOT_OVER = {
 # The modules that do not, in crates that do: they are tests of the crates above.
 MODULES_NOT_OVER = {("tests_assembler", "lent"), ("tests_assembler", "room")}
 # The modules that need the feature `std`, in crates that otherwise do not.
-NEED_STD = {("rrs_memory", "load"), ("rrs_board", "terminal")}
+NEED_STD = {("rrs_memory", "load"), ("rrs_board", "images"), ("rrs_board", "terminal")}
 # The crates whose examples in the docs use a crate above them.
 EXAMPLES_ABOVE = {"rrs_instruction": "rrs_lib"}
 # Crates of others, for which those of stand-in/ stand. A registry has those with a version. The

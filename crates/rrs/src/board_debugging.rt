@@ -40,7 +40,7 @@ pub fn debug_board<'a, H: Files + AllocGlobal, R: Read, W: Write>(
     packets: &mut R,
     output: &mut W,
 ) -> Result<Ending, Refusal<'a>> {
-    let board = board_of(rt, request.path(), request.memory)?;
+    let board = board_of(rt, request)?;
     let input = input_of(rt, request.input)?;
     let session = BoardSession::new(rt.alloc(), board, &input, request.limit);
     answer(rt.alloc(), session, packets, output)

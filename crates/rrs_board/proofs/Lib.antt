@@ -7,3 +7,5 @@ pub mod RamSteps
 pub mod RamWords
 pub mod BoardLegs
 pub mod RamHalts
+pub mod PaddedWords
+pub mod Images

@@ -1,14 +1,15 @@
 -- An executable in the words of RAM.
-use Rattle.std.proofs.Common.{◌≡◌, ℕ, ◌+◌, ◌<◌, ◌≤◌, true, List, length, sym, subst, arith}
+use Rattle.std.proofs.Common.{◌≡◌, ℕ, ◌+◌, ◌<◌, ◌≤◌, Bool, true, Option, List, length, sym, subst, arith}
+use Rattle.std.proofs.Math.Path.{fun_ext}
 use Rattle.std.proofs.lemmas.Bool.Decides.{nat_tests}
 use Rattle.rrs_memory.specs.Bytes.{ByteMap}
-use Rattle.rrs_memory.specs.SliceBytes.{bytes_from, lies_from, slice_bytes, slice_writable, slice_reads, SliceWrites}
-use Rattle.rrs_memory.specs.declared.memories.slice.SliceMemory.{SliceMemory}
+use Rattle.rrs_memory.specs.declared.MemAccessSize.{MemAccessSize}
+use Rattle.rrs_memory.specs.SliceBytes.{bytes_from, lies_from}
 use Rattle.rrs_memory.proofs.SliceWords.{lies_same}
 use Rattle.rrs_elf.specs.Headers.{e_phnum, p_vaddr}
 use Rattle.rrs_elf.specs.Loading.{Stands, StopsAt, loaded_size}
 use Rattle.rrs_board.specs.Registers.{ram_start}
-use Rattle.rrs_board.specs.Boards.{EndsOutside}
+use Rattle.rrs_board.specs.Boards.{EndsOutside, is_in_ram}
 
 -- a byte of RAM is not below it
 lies_above : (words : List ℕ) (a : ℕ) → lies_from ram_start words a ≡ true → ram_start ≤ a
@@ -34,10 +35,12 @@ all_in_ram file items old new stands i j numbered within =
 -- ---- refusals
 
 -- a load that stops is at an address that is not writable
-pub ends_at : (file : List ℕ) (old new : SliceMemory) (address : ℕ)
-    → StopsAt slice_reads SliceWrites slice_bytes (slice_writable old) file old new address
-    → EndsOutside file (slice_writable old) address
-ends_at file old new address stops = record {
+pub ends_at : {M : Type 0} (reads : M → ℕ → MemAccessSize → M → Option ℕ → Type 0)
+    (writes : M → ℕ → MemAccessSize → ℕ → M → Bool → Type 0) (bytes : M → ByteMap) (writable : ℕ → Bool)
+    (file : List ℕ) (old new : M) (address : ℕ)
+    → StopsAt reads writes bytes writable file old new address
+    → EndsOutside file writable address
+ends_at reads writes bytes writable file old new address stops = record {
   n = stops.n;
   k = stops.k;
   numbered = stops.numbered;
@@ -47,3 +50,12 @@ ends_at file old new address stops = record {
   segments = stops.stands.segments_writable;
   part = stops.stands.part_writable;
 }
+
+-- the addresses of so many words of RAM
+in_ram_same : (words : List ℕ) (n : ℕ) → length words ≡ n → (a : ℕ) → lies_from ram_start words a ≡ is_in_ram n a
+in_ram_same words n many a = grind (arith, nat_tests, many)
+
+pub outside_ram : (file words : List ℕ) (n address : ℕ) → length words ≡ n
+    → EndsOutside file (lies_from ram_start words) address → EndsOutside file (is_in_ram n) address
+outside_ram file words n address many ends =
+    subst (λ f. EndsOutside file f address) (fun_ext (in_ram_same words n many)) ends

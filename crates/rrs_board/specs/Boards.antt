@@ -1,6 +1,6 @@
 -- A board, its steps and runs. A step of the hart is that of machine mode (rrs_machine) over the
 -- memory of the board. Then the devices answer to its access, and time goes on.
-use Rattle.std.specs.Prelude.{◌≡◌, ℕ, zero, suc, ◌+◌, ◌*◌, ◌^◌, ◌<◌, ◌≤◌, ◌&&◌, nat_le, nat_lt, Bool, true, false, List, length, replicate, Option, Some, None}
+use Rattle.std.specs.Prelude.{◌≡◌, ℕ, zero, suc, ◌+◌, ◌*◌, ◌^◌, ◌<◌, ◌≤◌, ◌&&◌, nat_le, nat_lt, Bool, true, false, List, length, replicate, slice_set, Option, Some, None}
 use Rattle.rrs_lib.specs.Accesses.{MakesExactly}
 use Rattle.rrs_machine.specs.declared.machine.MachineAnswer.{MachineAnswer}
 use Rattle.rrs_machine.specs.Traps.{interrupt_due}
@@ -13,7 +13,9 @@ use Rattle.rrs_board.specs.Effects.{inputs_of, settled, event_after, reset_devic
 use Rattle.rrs_elf.specs.Headers.{e_entry, e_phnum, p_vaddr}
 use Rattle.rrs_elf.specs.Loading.{Stands, loaded_size}
 use Rattle.rrs_memory.specs.SliceBytes.{bytes_from, lies_from}
+use Rattle.rrs_memory.specs.Loading.{Loaded}
 use Rattle.rrs_memory.specs.declared.memories.VecMemory.{VecMemory}
+use Rattle.rrs_words.specs.CsrNumbers.{machine_alone}
 use Rattle.rrs_machine.specs.Csrs.{reset_file}
 
 -- the machine that a board is, with this memory
@@ -73,11 +75,12 @@ BoardLeg steps old new =
 
 -- ---- where a board starts
 
--- a hart all of whose registers are 0, at an address, CSRs and devices at reset, and this RAM
+-- a hart with machine mode alone, all of whose registers are 0, at an address, CSRs and devices at
+-- reset, and this RAM
 pub record IsReset (ram : VecMemory) (pc : ℕ) (b : Board) : Type 0 where
   pub registers : b.hart.registers ≡ replicate 32 0
   pub at : b.hart.pc ≡ pc
-  pub csrs : b.csrs ≡ reset_file
+  pub csrs : b.csrs ≡ reset_file machine_alone
   pub ram_is : b.memory.ram ≡ ram
   pub devices : b.memory.devices ≡ reset_devices
 
@@ -91,6 +94,27 @@ pub record StartsWith (file : List ℕ) (words : ℕ) (b : Board) : Type 0 where
       (lies_from ram_start b.memory.ram.mem.items) (e_phnum file) 0
   pub in_ram : (i j : ℕ) → i < e_phnum file → j < loaded_size file i
       → ram_start ≤ p_vaddr file i + j
+
+-- The board starts with an image: it is at reset, at the start of RAM, with so many words of RAM,
+-- which are 0 but for the bytes of the image, which stand from there on.
+pub record StartsWithImage (image : List ℕ) (words : ℕ) (b : Board) : Type 0 where
+  pub reset : IsReset b.memory.ram ram_start b
+  pub size : length b.memory.ram.mem.items ≡ words
+  pub loaded : Loaded (bytes_from ram_start (replicate words 0))
+      (bytes_from ram_start b.memory.ram.mem.items)
+      (lies_from ram_start b.memory.ram.mem.items) ram_start image
+
+-- Bytes are handed over to the hart: they stand in RAM from an address on, which is in a1. All else
+-- stays, but for the register that was written last.
+pub record HandsOver (handed : List ℕ) (address : ℕ) (old new : Board) : Type 0 where
+  pub registers : new.hart.registers ≡ slice_set old.hart.registers 11 address
+  pub pc : new.hart.pc ≡ old.hart.pc
+  pub csrs : new.csrs ≡ old.csrs
+  pub devices : new.memory.devices ≡ old.memory.devices
+  pub size : length new.memory.ram.mem.items ≡ length old.memory.ram.mem.items
+  pub loaded : Loaded (bytes_from ram_start old.memory.ram.mem.items)
+      (bytes_from ram_start new.memory.ram.mem.items)
+      (lies_from ram_start old.memory.ram.mem.items) address handed
 
 -- an address of RAM of so many words
 abbrev pub is_in_ram : ℕ → ℕ → Bool

@@ -4,6 +4,7 @@ pub mod Uart
 pub mod Clint
 pub mod Finisher
 pub mod Registers
+pub mod Ram
 pub mod Effects
 pub mod Boards
 pub mod Terminals

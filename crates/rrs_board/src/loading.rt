@@ -1,17 +1,12 @@
 //! A board with an executable in its RAM.
 
-ghost use Rattle.std.specs.Prelude.{◌≡◌, ℕ, length, Err, IfOk, IfErr, OnOk};
-ghost use Rattle.rrs_memory.specs.SliceBytes.{bytes_from, lies_from, slice_bytes, slice_writable, StaysLent};
-ghost use Rattle.rrs_elf.specs.Headers.{e_phnum};
-ghost use Rattle.rrs_elf.specs.Loading.{Stands};
+ghost use Rattle.std.specs.Prelude.{◌≡◌, ℕ, Err, IfOk};
 ghost use Rattle.rrs_elf.specs.Refusals.{first_refusal, checks};
-ghost use Rattle.rrs_board.specs.Registers.{ram_start};
 ghost use Rattle.rrs_board.specs.Boards.{StartsWith, EndsOutside, is_in_ram};
 
 use crate::board::Board;
-use crate::memory::RAM_START;
-use rrs_elf::{ElfError, Executable, Refused};
-use rrs_memory::memories::{SliceMemory, VecMemory};
+use crate::memory::Ram;
+use rrs_elf::{ElfError, Executable};
 use std::alloc::Global;
 
 /// Why no board starts with a file.
@@ -47,43 +42,13 @@ impl Board {
             Ok(executable) => executable,
             Err(error) => return Err(BoardError::Elf(error)),
         };
-        let mut ram = match vec![in alloc; 0; words] {
+        let mut ram = match Ram::new(alloc, words) {
             Ok(ram) => ram,
             Err(_) => return Err(BoardError::OutOfMemory),
         };
-        match load_words(&executable, &mut ram) {
-            Ok(()) => Ok(Board::new(VecMemory::new(ram), executable.entry())),
+        match executable.load(&mut ram) {
+            Ok(()) => Ok(Board::new(ram, executable.entry())),
             Err(refused) => Err(BoardError::Refused(refused.address)),
         }
-    }
-}
-
-/// Loads an executable into the words of RAM.
-fn load_words(executable: &Executable<'_>, words: &mut [u32]) -> Result<(), Refused>
-    ensures loaded { OnOk result (Stands executable.now.file.now
-        (bytes_from ram_start words.old) (bytes_from ram_start words.new)
-        (lies_from ram_start words.old) (e_phnum executable.now.file.now) 0) }
-    ensures length_kept { length words.new ≡ length words.old }
-    ensures outside { IfErr result (λ refused. EndsOutside executable.now.file.now
-        (lies_from ram_start words.old) refused.address) }
-{
-    let mut memory = SliceMemory {
-        words,
-        base: RAM_START,
-    };
-    load_lent(executable, &mut memory)
-}
-
-/// Loads an executable into words that are lent, which stay lent.
-fn load_lent<'a>(executable: &Executable<'_>, memory: &mut SliceMemory<'a>) -> Result<(), Refused>
-    ensures loaded { OnOk result (Stands executable.now.file.now (slice_bytes memory.old)
-        (slice_bytes memory.new) (slice_writable memory.old) (e_phnum executable.now.file.now) 0) }
-    ensures lent { StaysLent memory.old memory.new }
-    ensures outside { IfErr result (λ refused. EndsOutside executable.now.file.now
-        (slice_writable memory.old) refused.address) }
-{
-    match executable.load(memory) {
-        Ok(()) => Ok(()),
-        Err(refused) => Err(refused),
     }
 }

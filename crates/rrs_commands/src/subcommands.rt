@@ -194,15 +194,21 @@ const BOARD: Subcommand = Subcommand {
     task: Task::Board,
     command: Command {
         name: "rrs board",
-        usage: "rrs board [--limit STEPS] [--memory BYTES] [--input polled] PROGRAM",
+        usage: "rrs board [--limit STEPS] [--memory BYTES] [--input polled] [--raw] [--dtb FILE]
+    [--append TEXT] PROGRAM",
     },
     summary: "runs firmware on a board with machine mode",
     help: "Runs PROGRAM, an ELF executable for RV32IM, on a board like QEMU's virt: RAM of
 128 MiB (--memory, up to 2G) from 0x80000000 on, a UART 16550 at 0x10000000, whose two
 sides are standard output and standard input, a CLINT at 0x2000000, a finisher at
-0x100000. The hart has machine mode alone, and starts at the entry. It makes at
+0x100000. The hart has machine and user mode, and starts at the entry. It makes at
 most STEPS steps, or any number. Time goes by the instructions that retire, and
 wfi goes forward to the next alarm.
+
+With --raw PROGRAM is an image for the start of RAM, as a kernel is. a1 is then the
+address of a device tree, 64 KiB before the end of RAM: FILE of --dtb, or the board's
+own, whose arguments for the kernel are TEXT. An executable has a1 0 without --dtb and
+--append.
 
 Input is read where PROGRAM looks a thousand times in a row and finds none, and at a
 wfi that no alarm can end where IER asks for received data. With --input polled it is
@@ -221,7 +227,8 @@ const DEBUG: Subcommand = Subcommand {
     command: Command {
         name: "rrs gdb",
         usage: "rrs gdb [--memory BYTES] [--input FILE] [--raw] PROGRAM [ARGUMENT] ..
-       rrs gdb --board [--limit STEPS] [--memory BYTES] [--input FILE] PROGRAM",
+       rrs gdb --board [--limit STEPS] [--memory BYTES] [--input FILE] [--raw]
+           [--dtb FILE] [--append TEXT] PROGRAM",
     },
     summary: "runs a program, or firmware, under gdb",
     help: "Runs PROGRAM as rrs exec does, under gdb, which speaks by standard input and output:

@@ -5,7 +5,7 @@ use Rattle.rrs_run_commands.specs.declared.options.Task.TheVariants.{Run, Execut
 use Rattle.rrs_run_commands.specs.declared.options.Switch.{Switch}
 use Rattle.rrs_run_commands.specs.declared.options.Switch.TheVariants.{Quiet, Raw, Annotate, Gnu, Listed, Rars, Anywhere}
 use Rattle.rrs_run_commands.specs.declared.options.Setting.{Setting}
-use Rattle.rrs_run_commands.specs.declared.options.Setting.TheVariants.{Limit, Memory, From, Output, Callgrind, Input, Clock, Text, Data, Executable}
+use Rattle.rrs_run_commands.specs.declared.options.Setting.TheVariants.{Limit, Memory, From, Output, Callgrind, Input, Clock, Tree, Append, Text, Data, Executable}
 
 -- ---- options without a value
 
@@ -22,6 +22,8 @@ abbrev pub has_switch : Task → Switch → Bool
 has_switch Run Quiet = true
 has_switch Execute Raw = true
 has_switch Debug Raw = true
+has_switch Board Raw = true
+has_switch DebugBoard Raw = true
 has_switch Cover Annotate = true
 has_switch Assemble Gnu = true
 has_switch Assemble Listed = true
@@ -39,6 +41,8 @@ setting_word Output = codes "--output"
 setting_word Callgrind = codes "--callgrind"
 setting_word Input = codes "--input"
 setting_word Clock = codes "--clock"
+setting_word Tree = codes "--dtb"
+setting_word Append = codes "--append"
 setting_word Text = codes "-Ttext"
 setting_word Data = codes "-Tdata"
 setting_word Executable = codes "-o"
@@ -65,6 +69,10 @@ has_setting Cover Callgrind = true
 has_setting Board Input = true
 has_setting Debug Input = true
 has_setting DebugBoard Input = true
+has_setting Board Tree = true
+has_setting DebugBoard Tree = true
+has_setting Board Append = true
+has_setting DebugBoard Append = true
 has_setting Assemble Text = true
 has_setting Assemble Data = true
 has_setting Assemble Executable = true

@@ -10,9 +10,11 @@
 --       [--incbin-anywhere] FILE
 --   rrs dis FILE
 --   rrs elf FILE
---   rrs board [--limit STEPS] [--memory BYTES] [--input polled] PROGRAM
+--   rrs board [--limit STEPS] [--memory BYTES] [--input polled] [--raw] [--dtb FILE]
+--       [--append TEXT] PROGRAM
 --   rrs gdb [--memory BYTES] [--input FILE] [--raw] PROGRAM [ARGUMENT] ..
---   rrs gdb --board [--limit STEPS] [--memory BYTES] [--input FILE] PROGRAM
+--   rrs gdb --board [--limit STEPS] [--memory BYTES] [--input FILE] [--raw] [--dtb FILE]
+--       [--append TEXT] PROGRAM
 --
 -- Options stand in any order, before FILE and after it; but the words after a PROGRAM that has
 -- ARGUMENTs are its own.
@@ -25,7 +27,7 @@ use Rattle.rrs_run_commands.specs.declared.options.Task.TheVariants.{Run, Execut
 use Rattle.rrs_run_commands.specs.declared.options.Switch.{Switch}
 use Rattle.rrs_run_commands.specs.declared.options.Switch.TheVariants.{Quiet, Raw, Annotate, Gnu, Listed, Rars, Anywhere}
 use Rattle.rrs_run_commands.specs.declared.options.Setting.{Setting}
-use Rattle.rrs_run_commands.specs.declared.options.Setting.TheVariants.{Limit, Memory, From, Output, Callgrind, Input, Clock, Text, Data, Executable}
+use Rattle.rrs_run_commands.specs.declared.options.Setting.TheVariants.{Limit, Memory, From, Output, Callgrind, Input, Clock, Tree, Append, Text, Data, Executable}
 use Rattle.rrs_run_commands.specs.declared.refusal.Mistake.{Mistake}
 use Rattle.rrs_run_commands.specs.declared.refusal.Mistake.TheVariants as Mistake
 use Rattle.rrs_run_commands.specs.declared.requests.Form.{Form}
@@ -51,6 +53,8 @@ pub record Wanted : Type 0 where
   pub output : Option (List ℕ)
   pub callgrind : Option (List ℕ)
   pub input : Option (List ℕ)
+  pub tree : Option (List ℕ)
+  pub append : Option (List ℕ)
   pub file : Option (List ℕ)
   pub steps : Option ℕ
   pub program : List (List ℕ)
@@ -73,6 +77,8 @@ unasked task = record {
   output = None;
   callgrind = None;
   input = None;
+  tree = None;
+  append = None;
   file = None;
   steps = None;
   program = [];
@@ -95,6 +101,8 @@ wanted_of request = record {
   output = option_map (λ path. path.now) request.output;
   callgrind = option_map (λ path. path.now) request.callgrind;
   input = option_map (λ path. path.now) request.input;
+  tree = option_map (λ path. path.now) request.tree;
+  append = option_map (λ text. text.now) request.append;
   file = option_map (λ path. path.now) request.file;
   steps = request.steps;
   program = map string_bytes request.words.now;
@@ -151,6 +159,8 @@ Sets Board Input value old new =
 Sets task Input value old new = new ≡ record old { input = Some value }
 Sets task Clock value old new =
     (value ≡ codes "fixed") × (new ≡ record old { clock_fixed = true })
+Sets task Tree value old new = new ≡ record old { tree = Some value }
+Sets task Append value old new = new ≡ record old { append = Some value }
 Sets task Text value old new =
     (address : ℕ) × IsAddress value address × (new ≡ record old { text_start = Some address })
 Sets task Data value old new =
@@ -171,6 +181,8 @@ RefusesValue task Callgrind value fault = ⊥
 RefusesValue Board Input value fault = (value ≡ codes "polled" → ⊥) × (fault ≡ Wrong Input value)
 RefusesValue task Input value fault = ⊥
 RefusesValue task Clock value fault = (value ≡ codes "fixed" → ⊥) × (fault ≡ Wrong Clock value)
+RefusesValue task Tree value fault = ⊥
+RefusesValue task Append value fault = ⊥
 RefusesValue task Text value fault =
     ((address : ℕ) → IsAddress value address → ⊥) × (fault ≡ Wrong Text value)
 RefusesValue task Data value fault =

@@ -2,9 +2,12 @@
 
 use crate::files::{Noting, STANDARD_INPUT, STANDARD_OUTPUT, buffered, read_program};
 use crate::options::{Task, most_memory, usual_memory};
-use crate::refusal::{Refusal, named, no_image};
+use crate::refusal::{Refusal, named, no_image, out_of_memory};
 use crate::requests::Request;
-use rrs_board::{Board, BoardEnd, BoardError, BoardEvent, TerminalError, run_at_terminal};
+use rrs_board::memory::RAM_START;
+use rrs_board::{
+    Board, BoardEnd, BoardError, BoardEvent, Profile, TerminalError, device_tree, run_at_terminal,
+};
 use rrs_exec::ImageError;
 use rrs_fast::Ending;
 use std::io::{Read, Write};
@@ -23,21 +26,92 @@ fn refused<'a>(path: &'a str, file: &[u8], error: BoardError) -> Refusal<'a> {
     no_image(path, file, error)
 }
 
-/// A board at reset, with firmware in its RAM of so many bytes, or of the usual 128 MiB.
+/// What the hart of the board has beside RV32IM and machine mode.
+const PROFILE: Profile = Profile {
+    atomics: false,
+    user_mode: true,
+};
+
+/// The bytes of RAM at its end that a device tree is put into.
+const TREE_ROOM: u64 = 0x1_0000;
+
+/// The arguments for a kernel where no word says them: its console is the UART.
+const USUAL_ARGUMENTS: &str = "earlycon=uart8250,mmio,0x10000000 console=ttyS0";
+
+/// The device tree that a board with so many bytes of RAM hands over, if it hands one over: a file,
+/// or its own, for a raw image and where a word has arguments for the kernel.
 ///
 /// # Errors
 ///
-/// Those of `read_program`, and `Refusal::File` where it is no executable for this board.
+/// Those of `read_program`; out of memory as a failure.
+fn tree_of<'a, H: Files + AllocGlobal>(
+    rt: &H,
+    request: Request<'a>,
+    bytes: u64,
+) -> Result<Option<Vec<u8>>, Refusal<'a>> {
+    if let Some(path) = request.tree {
+        return Ok(Some(read_program(rt, path)?));
+    }
+    if !request.is_raw && request.append.is_none() {
+        return Ok(None);
+    }
+    let arguments = request.append.unwrap_or(USUAL_ARGUMENTS);
+    match device_tree(rt.alloc(), bytes.min(1 << 31) as u32, arguments) {
+        Ok(tree) => Ok(Some(tree)),
+        Err(_) => Err(out_of_memory()),
+    }
+}
+
+/// Hands over a device tree at the end of RAM of so many bytes, if there is one.
+///
+/// # Errors
+///
+/// `BoardError::Refused` where the tree, or the image before it, is too long for that.
+fn hand_tree(
+    board: &mut Board,
+    tree: Option<Vec<u8>>,
+    image: usize,
+    bytes: u64,
+) -> Result<(), BoardError> {
+    let Some(tree) = tree else {
+        return Ok(());
+    };
+    if bytes < TREE_ROOM || image as u64 > bytes - TREE_ROOM {
+        return Err(BoardError::Refused(RAM_START));
+    }
+    let place = (bytes - TREE_ROOM).min(u64::from(u32::MAX - RAM_START)) as u32;
+    board.hand_over(&tree, RAM_START + place)
+}
+
+/// A board at reset, with firmware in its RAM of so many bytes, or of the usual 128 MiB: an
+/// executable, or a raw image. Its hart has user mode.
+///
+/// # Errors
+///
+/// Those of `read_program`, and `Refusal::File` where it is no executable for this board, or does
+/// not fit in RAM with its device tree.
 pub fn board_of<'a, H: Files + AllocGlobal>(
     rt: &H,
-    path: &'a str,
-    asked: Option<u64>,
+    request: Request<'a>,
 ) -> Result<Board, Refusal<'a>> {
+    let path = request.path();
     let file = read_program(rt, path)?;
-    let bytes = asked.unwrap_or(usual_memory(Task::Board));
+    let bytes = request.memory.unwrap_or(usual_memory(Task::Board));
     let bytes = bytes.min(most_memory(Task::Board));
-    match Board::load(rt.alloc(), &file, (bytes / 4) as usize) {
-        Ok(board) => Ok(board),
+    let tree = tree_of(rt, request, bytes)?;
+    let words = (bytes / 4) as usize;
+    let (loaded, image) = if request.is_raw {
+        (Board::load_image(rt.alloc(), &file, words), file.len())
+    } else {
+        (Board::load(rt.alloc(), &file, words), 0)
+    };
+    let mut board = match loaded {
+        Ok(board) => board,
+        Err(error) => return Err(refused(path, &file, error)),
+    };
+    board.set_profile(PROFILE);
+    match hand_tree(&mut board, tree, image, bytes) {
+        Ok(()) => Ok(board),
         Err(error) => Err(refused(path, &file, error)),
     }
 }
@@ -71,7 +145,7 @@ pub fn run_board<'a, H: Files + Eprint + AllocGlobal, R: Read, W: Write>(
     input: &mut R,
     output: &mut W,
 ) -> Result<Ending, Refusal<'a>> {
-    let board = board_of(rt, request.path(), request.memory)?;
+    let board = board_of(rt, request)?;
     let (mut input, mut output) = (Noting::new(input), Noting::new(output));
     let ended = run_loaded(rt, board, request, &mut input, &mut output);
     match ended {

@@ -66,6 +66,10 @@ pub enum Setting {
     Input,
     /// `--clock`, with `fixed`.
     Clock,
+    /// `--dtb`, with a path.
+    Tree,
+    /// `--append`, with a text.
+    Append,
     /// `-Ttext`, with an address.
     Text,
     /// `-Tdata`, with an address.
@@ -75,7 +79,7 @@ pub enum Setting {
 }
 
 /// The words of all options.
-pub static WORDS: [&str; 17] = [
+pub static WORDS: [&str; 19] = [
     "--quiet",
     "--raw",
     "--annotate",
@@ -90,6 +94,8 @@ pub static WORDS: [&str; 17] = [
     "--callgrind",
     "--input",
     "--clock",
+    "--dtb",
+    "--append",
     "-Ttext",
     "-Tdata",
     "-o",
@@ -125,6 +131,8 @@ fn setting_named(name: &str) -> Option<Setting>
         "--callgrind" => Some(Setting::Callgrind),
         "--input" => Some(Setting::Input),
         "--clock" => Some(Setting::Clock),
+        "--dtb" => Some(Setting::Tree),
+        "--append" => Some(Setting::Append),
         "-Ttext" => Some(Setting::Text),
         "-Tdata" => Some(Setting::Data),
         "-o" => Some(Setting::Executable),
@@ -138,7 +146,10 @@ fn has_switch(task: Task, switch: Switch) -> bool
 {
     match switch {
         Switch::Quiet => matches!(task, Task::Run),
-        Switch::Raw => matches!(task, Task::Execute | Task::Debug),
+        Switch::Raw => matches!(
+            task,
+            Task::Execute | Task::Debug | Task::Board | Task::DebugBoard
+        ),
         Switch::Annotate => matches!(task, Task::Cover),
         Switch::Gnu | Switch::Listed | Switch::Rars | Switch::Anywhere => {
             matches!(task, Task::Assemble)
@@ -164,6 +175,7 @@ fn has_setting(task: Task, setting: Setting) -> bool
         Setting::Output => matches!(task, Task::Trace | Task::Cover),
         Setting::Callgrind => matches!(task, Task::Cover),
         Setting::Input => matches!(task, Task::Board | Task::Debug | Task::DebugBoard),
+        Setting::Tree | Setting::Append => matches!(task, Task::Board | Task::DebugBoard),
         Setting::Text | Setting::Data | Setting::Executable => matches!(task, Task::Assemble),
     }
 }

@@ -31,7 +31,8 @@ const RARS_DATA: u32 = 0x1001_0000;
 pub struct Request<'a> {
     /// Whether only the end of a run and the registers are wanted: `--quiet`.
     pub is_quiet: bool,
-    /// Whether the file's bytes are the program, and not an ELF file: `--raw`.
+    /// Whether the file's bytes are the program, or the image for a board, and not an ELF file:
+    /// `--raw`.
     pub is_raw: bool,
     /// Whether the report is the disassembly with counts: `--annotate`.
     pub is_annotated: bool,
@@ -59,6 +60,10 @@ pub struct Request<'a> {
     pub callgrind: Option<&'a str>,
     /// The path of the file that is the input of what is debugged: `--input`.
     pub input: Option<&'a str>,
+    /// The path of the device tree that a board hands over: `--dtb`.
+    pub tree: Option<&'a str>,
+    /// The arguments for the kernel in the board's own device tree: `--append`.
+    pub append: Option<&'a str>,
     /// The path of the file, or of the program.
     pub file: Option<&'a str>,
     /// The most steps that `rrs run` makes.
@@ -94,6 +99,8 @@ fn unasked<'a>(task: Task) -> Request<'a>
         output: None,
         callgrind: None,
         input: None,
+        tree: None,
+        append: None,
         file: None,
         steps: None,
         words: &[],
@@ -294,6 +301,8 @@ fn set<'a>(
         },
         Setting::Clock if value == "fixed" => request.has_fixed_clock = true,
         Setting::Clock => return Err(Mistake::Wrong(setting, value)),
+        Setting::Tree => request.tree = Some(value),
+        Setting::Append => request.append = Some(value),
         Setting::Text => match address_of(value) {
             Some(address) => request.text_start = Some(address),
             None => return Err(Mistake::Wrong(setting, value)),

@@ -387,9 +387,9 @@ static REFUSED_PROGRAMS: [Refused; 25] = [
     ),
     (
         Program::Rrs,
-        &[b"rrs", b"gdb", b"--board", b"--raw", b"process"],
+        &[b"rrs", b"gdb", b"--board", b"--quiet", b"process"],
         2,
-        "rrs gdb: no option --raw: rrs help gdb lists them\n",
+        "rrs gdb: no option --quiet: rrs help gdb lists them\n",
     ),
     (
         Program::Rrs,

@@ -1,28 +1,30 @@
 -- The executable is loaded into zeros, which are the RAM of a board at reset.
-use Rattle.std.proofs.Common.{◌≡◌, length, replicate, ap, ◌∙◌, refl, arith, rules}
-use Rattle.std.proofs.lemmas.List.{with_items_is}
+use Rattle.std.proofs.Common.{◌≡◌, ℕ, length, slice_index, replicate, ap, sym, subst, ◌∙◌, refl, rules}
+use Rattle.std.proofs.lemmas.List.{length-replicate}
 use Rattle.rrs_memory.specs.declared.memories.VecMemory.{VecMemory}
 use Rattle.rrs_elf.specs.Headers.{e_entry}
-use Rattle.rrs_board.proofs.Loaded.{stands_in_ram, all_in_ram}
+use Rattle.rrs_board.specs.Boards.{EndsOutside, is_in_ram}
+use Rattle.rrs_board.proofs.Loaded.{stands_in_ram, all_in_ram, ends_at, outside_ram}
 use Rattle.rrs_board.proofs.board.Board.load.Goals as goal
 
-pub returns-in-Ok-load_words-clause-starts : goal.returns-in-Ok-load_words-clause-starts
-returns-in-Ok-load_words-clause-starts c =
+pub returns-in-Ok-load-clause-starts : goal.returns-in-Ok-load-clause-starts
+returns-in-Ok-load-clause-starts c =
     let file = c.args.file.now in
     let read = c.in-Ok.executable.file.now in
     let same : read ≡ file = search rules in
-    let made = c.new-in-Ok-load_words in
+    let made = c.new-in-Ok-load in
     let empty = made.ensures in
-    let old = c.deref_mut.result.now in
-    let new = c.load_words.new.words in
-    let items = made.result.memory.ram.mem.items in
-    let zeros : old ≡ replicate c.args.words 0 = c.deref_mut.ensures.value ∙ search rules in
-    let many : length old ≡ c.args.words = search rules in
-    let kept : length new ≡ length old = c.load_words.ensures.length_kept in
-    let given : c.new.result.mem.items ≡ new = rw c.new.ensures (with_items_is c.in-Ok-vec.ram new (omega (arith, kept, c.deref_mut.ensures.len))) in
-    let is_new : items ≡ new = ap (λ (r : VecMemory). r.mem.items) empty.ram_is ∙ given in
-    let stands = stands_in_ram file read old (replicate c.args.words 0) new items same zeros is_new kept
-    c.in-Ok-load_words.ensures.loaded in
+    let given = c.in-Ok-new.ram in
+    let left = c.load.new.memory in
+    let old = given.mem.items in
+    let new = left.mem.items in
+    let zeros : old ≡ replicate c.args.words 0 = c.in-Ok-new.ensures in
+    let many : length old ≡ c.args.words = ap length zeros ∙ length-replicate c.args.words 0 in
+    let layout : left.mem.len ≡ given.mem.len = ap (λ numbers. slice_index numbers 0) c.load.ensures.layout_kept in
+    let kept : length new ≡ length old = sym left.mem.ok.0 ∙ layout ∙ given.mem.ok.0 in
+    let is_new : made.result.memory.ram.mem.items ≡ new = ap (λ (r : VecMemory). r.mem.items) empty.ram_is in
+    let stands = stands_in_ram file read old (replicate c.args.words 0) new made.result.memory.ram.mem.items same zeros is_new kept
+    c.in-Ok-load.ensures.loaded in
     record {
       reset = record {
         registers = empty.registers;
@@ -35,3 +37,16 @@ returns-in-Ok-load_words-clause-starts c =
       loaded = stands;
       in_ram = all_in_ram file _ _ _ stands;
     }
+
+pub returns-in-Err-load-clause-outside : goal.returns-in-Err-load-clause-outside
+returns-in-Err-load-clause-outside c = λ address is.
+    let file = c.args.file.now in
+    let read = c.in-Ok.executable.file.now in
+    let same : read ≡ file = search rules in
+    let old = c.in-Ok-new.ram.mem.items in
+    let zeros : old ≡ replicate c.args.words 0 = c.in-Ok-new.ensures in
+    let many : length old ≡ c.args.words = ap length zeros ∙ length-replicate c.args.words 0 in
+    let at = c.in-Err-load.refused.address in
+    let ends = ends_at _ _ _ _ read _ _ at c.in-Err-load.ensures.refused in
+    subst (λ a. EndsOutside file (is_in_ram c.args.words) a) (cc is)
+    (subst (λ f. EndsOutside f (is_in_ram c.args.words) at) same (outside_ram read old c.args.words at many ends))
