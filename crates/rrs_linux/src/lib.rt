@@ -34,6 +34,7 @@ use crate::requests::{NO_SUCH_CALL, system_call_of};
 use crate::statuses::{put_extended_status, put_named_status, put_status};
 use crate::unserved::keep_number;
 use arrayvec::ArrayVec;
+pub use buffers::{copy_chunk, give_bytes, most_of, put_bytes};
 pub use clocks::{Clocks, LinuxClocks, StoppedClocks, TimeForm};
 pub use host_side::HostSide;
 pub use host_writer::HostWriter;

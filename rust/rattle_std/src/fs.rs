@@ -20,6 +20,137 @@ impl File {
     }
 }
 
+/// How a file is opened.
+#[derive(Clone, Debug)]
+pub struct OpenOptions(fs::OpenOptions);
+
+macro_rules! options {
+    ($($name:ident)*) => {$(
+        /// Rust's of its name.
+        pub fn $name(&mut self, value: bool) -> &mut OpenOptions {
+            self.0.$name(value);
+            self
+        }
+    )*};
+}
+
+impl OpenOptions {
+    /// Options of which none is set.
+    #[allow(clippy::new_without_default)]
+    pub fn new() -> OpenOptions {
+        OpenOptions(fs::OpenOptions::new())
+    }
+
+    options!(read write append truncate create create_new);
+
+    /// Opens a file so.
+    pub fn open<R: Files>(&self, _: &R, path: &str) -> io::Result<R::File> {
+        self.0.open(path).map(R::of)
+    }
+}
+
+#[cfg(unix)]
+impl host::os::unix::fs::OpenOptionsExt for OpenOptions {
+    fn mode(&mut self, mode: u32) -> &mut OpenOptions {
+        self.0.mode(mode);
+        self
+    }
+
+    fn custom_flags(&mut self, flags: i32) -> &mut OpenOptions {
+        self.0.custom_flags(flags);
+        self
+    }
+}
+
+/// What a file that is open tells of itself.
+pub trait OpenFile {
+    /// What is known of it.
+    fn metadata(&self) -> io::Result<Metadata>;
+
+    /// Gives it so many bytes.
+    fn set_len(&self, size: u64) -> io::Result<()>;
+
+    /// Puts what was written on the device.
+    fn sync_all(&self) -> io::Result<()>;
+
+    /// Puts the bytes that were written on the device.
+    fn sync_data(&self) -> io::Result<()>;
+
+    /// Sets who may do what with it.
+    fn set_permissions(&self, to: Permissions) -> io::Result<()>;
+}
+
+impl OpenFile for fs::File {
+    fn metadata(&self) -> io::Result<Metadata> {
+        fs::File::metadata(self)
+    }
+
+    // Rust has its own error for such a size, the library the kind of it.
+    fn set_len(&self, size: u64) -> io::Result<()> {
+        if i64::try_from(size).is_err() {
+            return Err(io::ErrorKind::InvalidInput.into());
+        }
+        fs::File::set_len(self, size)
+    }
+
+    fn sync_all(&self) -> io::Result<()> {
+        fs::File::sync_all(self)
+    }
+
+    fn sync_data(&self) -> io::Result<()> {
+        fs::File::sync_data(self)
+    }
+
+    fn set_permissions(&self, to: Permissions) -> io::Result<()> {
+        fs::File::set_permissions(self, to)
+    }
+}
+
+/// How a directory is made.
+#[derive(Debug)]
+pub struct DirBuilder(fs::DirBuilder);
+
+impl DirBuilder {
+    /// Alone, with all rights that the host gives.
+    #[allow(clippy::new_without_default)]
+    pub fn new() -> DirBuilder {
+        DirBuilder(fs::DirBuilder::new())
+    }
+
+    /// Makes a directory so.
+    pub fn create<R: Files>(&self, _: &R, path: &str) -> io::Result<()> {
+        self.0.create(path)
+    }
+}
+
+#[cfg(unix)]
+impl host::os::unix::fs::DirBuilderExt for DirBuilder {
+    fn mode(&mut self, mode: u32) -> &mut DirBuilder {
+        self.0.mode(mode);
+        self
+    }
+}
+
+/// What is known of a file, or of a link.
+pub fn symlink_metadata<R: Files>(_: &R, path: &str) -> io::Result<Metadata> {
+    fs::symlink_metadata(path)
+}
+
+/// Removes the name of a file.
+pub fn remove_file<R: Files>(_: &R, path: &str) -> io::Result<()> {
+    fs::remove_file(path)
+}
+
+/// Removes an empty directory.
+pub fn remove_dir<R: Files>(_: &R, path: &str) -> io::Result<()> {
+    fs::remove_dir(path)
+}
+
+/// Gives a file another name.
+pub fn rename<R: Files>(_: &R, from: &str, to: &str) -> io::Result<()> {
+    fs::rename(from, to)
+}
+
 /// What is known of a file.
 pub fn metadata<R: Files>(_: &R, path: &str) -> io::Result<Metadata> {
     fs::metadata(path)

@@ -15,6 +15,7 @@ pub trait AllocGlobal {
 #[cfg(feature = "std")]
 mod host_runtime {
     use super::AllocGlobal;
+    use crate::fs::OpenFile;
     use core::fmt::Display;
     use host::fs::File;
     use host::io::{self, BufRead, Read, Seek, Write};
@@ -87,7 +88,7 @@ mod host_runtime {
     /// What opens files.
     pub trait Files {
         /// A file that is open.
-        type File: Read + Write + Seek;
+        type File: Read + Write + Seek + OpenFile;
 
         #[doc(hidden)]
         fn of(file: File) -> Self::File;

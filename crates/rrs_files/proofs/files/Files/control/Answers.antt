@@ -1,0 +1,6 @@
+use Rattle.std.proofs.Common.{refl}
+use Rattle.rrs_files.specs.Acts.{IsControlled}
+use Rattle.rrs_files.proofs.files.Files.control.Goals as goal
+
+pub returns-in-Some : goal.returns-in-Some
+returns-in-Some g c = IsControlled _ c.in-Some.ensures refl c.answer_to.ensures

@@ -1,0 +1,26 @@
+use Rattle.std.proofs.Common.{◌≡◌, refl, ◌∙◌}
+use Rattle.rrs_lib.specs.Machine.{state_of}
+use Rattle.rrs_linux.specs.SystemCalls.{answered}
+use Rattle.rrs_files.specs.Calls.{IsFile, IsOther}
+use Rattle.rrs_files.proofs.serving.WithFilesEnvironment.serve.Goals as goal
+
+pub returns-in-None-clause-served : goal.returns-in-None-clause-served
+returns-in-None-clause-served g c =
+    let other = c.serve.ensures.served in
+    record { accesses = other.accesses; these = IsOther (c.in-None.ensures (g.M.Memory.bytes c.args.executor.now.mem.now) (g.M.Memory.writable c.args.executor.now.mem.now)) other.these refl; made = other.made }
+
+pub returns-in-Some-clause-served : goal.returns-in-Some-clause-served
+returns-in-Some-clause-served g c =
+    let memory = g.M.Memory in
+    let did = c.perform-answer.ensures.does in
+    let went = c.go_on.ensures in
+    let hart = c.args.executor.now.hart_state.now in
+    let kept = c.perform-answer.ensures.writable_kept in
+    let bytes = memory.bytes c.perform-answer.new.memory in
+    record {
+      accesses = did.accesses;
+      these = IsFile c.in-Some.request bytes c.perform-answer.result (c.in-Some.ensures (g.M.Memory.bytes c.args.executor.now.mem.now) (g.M.Memory.writable c.args.executor.now.mem.now)) did.these
+          (went.answered _ _ ∙ (λ i. answered (state_of hart bytes (kept i)) c.perform-answer.result)) went.goes_on
+          refl;
+      made = did.made;
+    }

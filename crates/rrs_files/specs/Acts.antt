@@ -1,0 +1,202 @@
+-- What the calls that put nothing into memory do to the files of a program, where the path is read
+-- and allowed: which calls of the host are made, in order, and with which path. No other is made.
+use Rattle.std.specs.Prelude.{◌≡◌, ℕ, ◌+◌, ◌*◌, ◌==◌, ◌&&◌, ◌||◌, not, bit_and, if◌then◌else◌, List, Bool, true, false, set, Option, Some, None, unwrap_or}
+use Rattle.rrs_linux.specs.Requests.{error}
+use Rattle.rrs_files.specs.declared.files.Files.{Files}
+use Rattle.rrs_files.specs.declared.folder.Change.{Change}
+use Rattle.rrs_files.specs.declared.folder.Change.TheVariants as Change
+use Rattle.rrs_files.specs.declared.folder.How.{How}
+use Rattle.rrs_files.specs.declared.folder.NameChange.{NameChange}
+use Rattle.rrs_files.specs.declared.folder.NameChange.TheVariants as NameChange
+use Rattle.rrs_files.specs.declared.paths.Named.{Named}
+use Rattle.rrs_files.specs.declared.paths.Named.TheVariants.{There, Missing, Stopped}
+use Rattle.rrs_files.specs.Descriptors.{IsOpen, IsClosed, IsFirstFree, IsFull}
+use Rattle.rrs_files.specs.Events.{Did, Opened, Closed, Changed, NameChanged, Renamed}
+use Rattle.rrs_files.specs.Paths.{Walks, kind}
+use Rattle.rrs_files.specs.Requests.{how_of, not_served, changes}
+
+-- why what a path names isn't opened, if it isn't
+abbrev pub opening : Named → How → Option ℕ
+opening (Stopped e) how = Some e
+-- ENOENT is 2
+opening Missing how = if how.creates then None else Some (error 2)
+opening (There status) how =
+    -- EEXIST is 17
+    if how.creates && how.is_new then Some (error 17)
+    else (if kind status == 0x8000 then None
+    -- a link: ELOOP is 40
+    else (if kind status == 0xa000 then Some (error 40)
+    -- a directory: EISDIR is 21; a device, a pipe, a socket: EACCES is 13
+    else (if kind status == 0x4000 then Some (error 21) else Some (error 13))))
+
+-- why a name isn't changed, if it isn't; a link is removed
+abbrev pub keeping : Named → NameChange → Option ℕ
+keeping (Stopped e) change = Some e
+-- ENOENT is 2
+keeping Missing (NameChange.MakeDirectory mode) = None
+keeping Missing change = Some (error 2)
+-- EEXIST is 17, EISDIR 21, and ENOTDIR 20
+keeping (There status) (NameChange.MakeDirectory mode) = Some (error 17)
+keeping (There status) NameChange.Remove =
+    if kind status == 0x4000 then Some (error 21) else None
+keeping (There status) NameChange.RemoveDirectory =
+    if kind status == 0x4000 then None else Some (error 20)
+
+-- why what a path names isn't renamed, if it isn't: there is none, or it is a link (ELOOP is 40)
+abbrev pub moving : Named → Option ℕ
+moving (Stopped e) = Some e
+moving Missing = Some (error 2)
+moving (There status) = if kind status == 0xa000 then Some (error 40) else None
+
+-- why no name is put in its place, if none is
+abbrev pub replacing : Named → Option ℕ
+replacing (Stopped e) = Some e
+replacing Missing = None
+replacing (There status) = if kind status == 0xa000 then Some (error 40) else None
+
+-- why what a path names may not be read (4), written (2) or executed (1), if it may not: by what
+-- its owner may (EROFS is 30, and EACCES 13)
+abbrev pub denying : Named → (asked : ℕ) → (is_read_only : Bool) → Option ℕ
+denying (Stopped e) asked only = Some e
+denying Missing asked only = Some (error 2)
+denying (There status) asked only =
+    if kind status == 0xa000 then Some (error 40)
+    else (if only && not (bit_and asked 2 == 0) then Some (error 30)
+    else (if bit_and status.mode (bit_and asked 7 * 64) == bit_and asked 7 * 64 then None
+    else Some (error 13)))
+
+-- a change of a file that files that may only be read don't have; the others are the host's to
+-- refuse, where the file is not open to be written
+abbrev pub needs_right : Change → Bool
+needs_right (Change.Mode mode) = true
+needs_right (Change.Length length) = false
+needs_right Change.Flush = false
+needs_right Change.FlushBytes = false
+
+-- the answer to a command of fcntl64: 0 to F_GETFD (1) and F_SETFD (2), since no program is started
+-- for which a descriptor would be closed; there are no others (EINVAL is 22)
+abbrev pub control_answer : ℕ → ℕ
+control_answer command = if (command == 1) || (command == 2) then 0 else error 22
+
+-- By what a folder says of a call:
+module _ {F : Type 0} (did : Did F) where
+  -- openat of a path: it is walked, and where it names what may be opened, that is, at the first
+  -- place that is free
+  pub data Opens (path : List ℕ) (flags mode : ℕ) (old new : Files F) (answer : ℕ) : Type 0 where
+    -- EINVAL is 22, EROFS 30, and EMFILE 24
+    IsUnserved :
+        not_served flags ≡ true → new ≡ old → answer ≡ error 22
+        → Opens path flags mode old new answer
+    IsReadOnly :
+        not_served flags ≡ false → (old.is_read_only && changes (how_of flags mode)) ≡ true
+        → new ≡ old → answer ≡ error 30 → Opens path flags mode old new answer
+    HasNoPlace :
+        not_served flags ≡ false → (old.is_read_only && changes (how_of flags mode)) ≡ false
+        → IsFull old.descriptors.are_open
+        → new ≡ old → answer ≡ error 24 → Opens path flags mode old new answer
+    IsRefused : (named : Named) (folder : F)
+        → not_served flags ≡ false → (old.is_read_only && changes (how_of flags mode)) ≡ false
+        → Walks did path old.folder folder named → opening named (how_of flags mode) ≡ Some answer
+        → new ≡ record old { folder = folder } → Opens path flags mode old new answer
+    HasFailed : (named : Named) (place : ℕ) (mid folder : F)
+        → not_served flags ≡ false → (old.is_read_only && changes (how_of flags mode)) ≡ false
+        → IsFirstFree old.descriptors.are_open place
+        → Walks did path old.folder mid named → opening named (how_of flags mode) ≡ None
+        → did mid (Opened place path (how_of flags mode) (Some answer)) folder
+        → new ≡ record old { folder = folder } → Opens path flags mode old new answer
+    IsOpened : (named : Named) (place : ℕ) (mid folder : F)
+        → not_served flags ≡ false → (old.is_read_only && changes (how_of flags mode)) ≡ false
+        → IsFirstFree old.descriptors.are_open place
+        → Walks did path old.folder mid named → opening named (how_of flags mode) ≡ None
+        → did mid (Opened place path (how_of flags mode) None) folder
+        → new ≡ record old {
+          folder = folder;
+          descriptors = record { are_open = set old.descriptors.are_open place true };
+        }
+        → answer ≡ place + 3 → Opens path flags mode old new answer
+
+  -- close: the file of the descriptor, and no other
+  pub data Closes (descriptor : ℕ) (old new : Files F) (answer : ℕ) : Type 0 where
+    IsClosedNow : (place : ℕ) (folder : F)
+        → IsOpen old.descriptors.are_open descriptor place
+        → did old.folder (Closed place) folder
+        → new ≡ record old {
+          folder = folder;
+          descriptors = record { are_open = set old.descriptors.are_open place false };
+        }
+        → answer ≡ 0 → Closes descriptor old new answer
+    -- EBADF is 9
+    WasClosed :
+        IsClosed old.descriptors.are_open descriptor → new ≡ old → answer ≡ error 9
+        → Closes descriptor old new answer
+
+  -- ftruncate64, fsync, fdatasync and fchmod: the file of the descriptor, and no other
+  pub data Changes (descriptor : ℕ) (change : Change) (old new : Files F) (answer : ℕ) : Type 0 where
+    NotOpenToChange :
+        IsClosed old.descriptors.are_open descriptor → new ≡ old → answer ≡ error 9
+        → Changes descriptor change old new answer
+    MayNotChange : (place : ℕ)
+        → IsOpen old.descriptors.are_open descriptor place
+        → (old.is_read_only && needs_right change) ≡ true
+        → new ≡ old → answer ≡ error 30 → Changes descriptor change old new answer
+    IsChanged : (place : ℕ) (folder : F) (failed : Option ℕ)
+        → IsOpen old.descriptors.are_open descriptor place
+        → (old.is_read_only && needs_right change) ≡ false
+        → did old.folder (Changed place change failed) folder
+        → new ≡ record old { folder = folder } → answer ≡ unwrap_or failed 0
+        → Changes descriptor change old new answer
+
+  -- unlinkat and mkdirat of a path
+  pub data ChangesName (path : List ℕ) (change : NameChange) (old new : Files F) (answer : ℕ)
+      : Type 0 where
+    MayNot :
+        old.is_read_only ≡ true → new ≡ old → answer ≡ error 30
+        → ChangesName path change old new answer
+    IsKept : (named : Named) (folder : F)
+        → old.is_read_only ≡ false
+        → Walks did path old.folder folder named → keeping named change ≡ Some answer
+        → new ≡ record old { folder = folder } → ChangesName path change old new answer
+    HasChanged : (named : Named) (mid folder : F) (failed : Option ℕ)
+        → old.is_read_only ≡ false
+        → Walks did path old.folder mid named → keeping named change ≡ None
+        → did mid (NameChanged path change failed) folder
+        → new ≡ record old { folder = folder } → answer ≡ unwrap_or failed 0
+        → ChangesName path change old new answer
+
+  -- renameat2 of two paths
+  pub data Renames (from to : List ℕ) (old new : Files F) (answer : ℕ) : Type 0 where
+    MayNotRename :
+        old.is_read_only ≡ true → new ≡ old → answer ≡ error 30 → Renames from to old new answer
+    IsNotMoved : (named : Named) (folder : F)
+        → old.is_read_only ≡ false
+        → Walks did from old.folder folder named → moving named ≡ Some answer
+        → new ≡ record old { folder = folder } → Renames from to old new answer
+    IsNotReplaced : (named there : Named) (mid folder : F)
+        → old.is_read_only ≡ false
+        → Walks did from old.folder mid named → moving named ≡ None
+        → Walks did to mid folder there → replacing there ≡ Some answer
+        → new ≡ record old { folder = folder } → Renames from to old new answer
+    IsRenamed : (named there : Named) (mid seen folder : F) (failed : Option ℕ)
+        → old.is_read_only ≡ false
+        → Walks did from old.folder mid named → moving named ≡ None
+        → Walks did to mid seen there → replacing there ≡ None
+        → did seen (Renamed from to failed) folder
+        → new ≡ record old { folder = folder } → answer ≡ unwrap_or failed 0
+        → Renames from to old new answer
+
+  -- faccessat of a path: it is walked, and nothing else is done
+  pub data Tests (path : List ℕ) (asked : ℕ) (old new : Files F) (answer : ℕ) : Type 0 where
+    IsTested : (named : Named) (folder : F)
+        → Walks did path old.folder folder named → new ≡ record old { folder = folder }
+        → answer ≡ unwrap_or (denying named asked old.is_read_only) 0
+        → Tests path asked old new answer
+
+  -- fcntl64 on a descriptor
+  pub data Controls (descriptor command : ℕ) (old new : Files F) (answer : ℕ) : Type 0 where
+    NotOpenToControl :
+        IsClosed old.descriptors.are_open descriptor → new ≡ old → answer ≡ error 9
+        → Controls descriptor command old new answer
+    IsControlled : (place : ℕ)
+        → IsOpen old.descriptors.are_open descriptor place → new ≡ old
+        → answer ≡ control_answer command
+        → Controls descriptor command old new answer

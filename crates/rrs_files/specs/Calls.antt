@@ -1,0 +1,285 @@
+-- What the calls for files do to the files and to the machine: which bytes of memory are read and
+-- written, which calls of the host are made, and what is answered. A call that is refused makes no
+-- call of the host, but for the looks at its path.
+use Rattle.std.specs.Prelude.{◌≡◌, ◌⊎◌, ℕ, ◌+◌, ◌^◌, ◌<◌, ◌≤◌, ◌==◌, ◌&&◌, min, not, bit_and, if◌then◌else◌, Bool, true, false, List, [], ◌∷◌, ◌++◌, length, Option, Some, None, Result, Ok, Err}
+use Rattle.std.specs.Int.{to_le_bytes, w64}
+use Rattle.rrs_lib.specs.Bytes.{ByteMap}
+use Rattle.rrs_lib.specs.AccessLists.{Access}
+use Rattle.rrs_lib.specs.Machine.{State}
+use Rattle.rrs_fast.specs.Serving.{Relation}
+use Rattle.rrs_linux.specs.Recording.{GivesText}
+use Rattle.rrs_linux.specs.Requests.{error}
+use Rattle.rrs_linux.specs.Statuses.{PutsBytes}
+use Rattle.rrs_linux.specs.SystemCalls.{answered}
+use Rattle.rrs_linux.specs.Transfers.{Stands, byte_reads}
+use Rattle.rrs_files.specs.declared.files.Files.{Files}
+use Rattle.rrs_files.specs.declared.folder.Status.{Status}
+use Rattle.rrs_files.specs.declared.paths.Named.{Named}
+use Rattle.rrs_files.specs.declared.paths.Named.TheVariants.{There, Missing, Stopped}
+use Rattle.rrs_files.specs.declared.requests.FileRequest.{FileRequest}
+use Rattle.rrs_files.specs.declared.requests.FileRequest.TheVariants as FileRequest
+use Rattle.rrs_files.specs.declared.serving.WithFiles.{WithFiles}
+use Rattle.rrs_files.specs.Acts.{Opens, Closes, Changes, ChangesName, Renames, Tests, Controls}
+use Rattle.rrs_files.specs.Descriptors.{IsOpen, IsClosed}
+use Rattle.rrs_files.specs.Events.{Did, Gave, Took, Sought, Told}
+use Rattle.rrs_files.specs.Paths.{IsText, IsAllowed, IsForbidden, Walks, kind}
+use Rattle.rrs_files.specs.Requests.{AsksFile}
+use Rattle.rrs_files.specs.Statuses.{status_bytes}
+
+-- the most bytes of a file that one call reads or writes
+abbrev pub most_of_file : ℕ
+most_of_file = 65536
+
+-- The path of a call is read, and it is allowed; or the error.
+pub data TakesPath (bytes : ByteMap) (are_open : List Bool) (beside a : ℕ)
+    (path : Result (List ℕ) ℕ) (accesses : List Access) : Type 0 where
+  IsTaken : (text : List ℕ)
+      → IsText bytes a (Ok text) accesses → IsAllowed text beside → path ≡ Ok text
+      → TakesPath bytes are_open beside a path accesses
+  IsNot : (text : List ℕ) (e : ℕ)
+      → IsText bytes a (Ok text) accesses → IsForbidden text beside are_open e → path ≡ Err e
+      → TakesPath bytes are_open beside a path accesses
+  HasNoText : (e : ℕ)
+      → IsText bytes a (Err e) accesses → path ≡ Err e
+      → TakesPath bytes are_open beside a path accesses
+
+-- the status of what a path names, or the error (ENOENT is 2, ELOOP 40); AT_SYMLINK_NOFOLLOW is
+-- 0x100
+abbrev pub naming : Named → (flags : ℕ) → Result Status ℕ
+naming (Stopped e) flags = Err e
+naming Missing flags = Err (error 2)
+naming (There status) flags =
+    if (kind status == 0xa000) && (bit_and flags 0x100 == 0) then Err (error 40) else Ok status
+
+-- a status is that of a descriptor: the path is empty, and may be (AT_EMPTY_PATH is 0x1000)
+abbrev pub is_of_descriptor : (e flags : ℕ) → Bool
+is_of_descriptor e flags = (e == error 2) && not (bit_and flags 0x1000 == 0)
+
+-- how many bytes were written, or the error
+abbrev pub taken_of : Result ℕ ℕ → ℕ
+taken_of (Ok n) = n
+taken_of (Err e) = e
+
+-- How far a buffer at a was read of which n bytes are wanted: to its end, or to a byte that is not
+-- mapped.
+pub data ReadsBuffer (bytes : ByteMap) (a n : ℕ) (text : List ℕ) (reads : ℕ) : Type 0 where
+  IsWhole : length text ≡ n → reads ≡ n → ReadsBuffer bytes a n text reads
+  IsCut :
+      0 < length text → length text < n → bytes (a + length text) ≡ None
+      → reads ≡ length text + 1 → ReadsBuffer bytes a n text reads
+
+-- the answer of getcwd where its bytes were put with this answer: how many they are, or the error
+abbrev pub folder_answer : ℕ → ℕ
+folder_answer put = if put == 0 then 2 else put
+
+-- getcwd: the path of the folder, which is "/", and the 0 that ends it (ERANGE is 34)
+pub data TellsFolder (writable : ℕ → Bool) (bytes bytes' : ByteMap) (a size answer : ℕ)
+    (accesses : List Access) : Type 0 where
+  HasNoRoom :
+      size < 2 → bytes' ≡ bytes → accesses ≡ [] → answer ≡ error 34
+      → TellsFolder writable bytes bytes' a size answer accesses
+  HasRoom : (put : ℕ)
+      → 2 ≤ size → PutsBytes writable bytes bytes' a (47 ∷ 0 ∷ []) accesses put
+      → answer ≡ folder_answer put → TellsFolder writable bytes bytes' a size answer accesses
+
+-- By what a folder says of a call, by which addresses are writable, and by the bytes before and
+-- after:
+module _ {F : Type 0} (did : Did F) (writable : ℕ → Bool) (bytes bytes' : ByteMap) where
+  -- a call that names a file and does this to it
+  pub data ByPath (does : List ℕ → Files F → Files F → ℕ → Type 0) (beside a : ℕ)
+      (old new : Files F) (answer : ℕ) (accesses : List Access) : Type 0 where
+    IsDone : (path : List ℕ)
+        → TakesPath bytes old.descriptors.are_open beside a (Ok path) accesses
+        → does path old new answer → bytes' ≡ bytes
+        → ByPath does beside a old new answer accesses
+    IsRefused :
+        TakesPath bytes old.descriptors.are_open beside a (Err answer) accesses
+        → new ≡ old → bytes' ≡ bytes → ByPath does beside a old new answer accesses
+
+  -- a call that names two files and does this to them; the second path is read after the first one
+  pub data ByPaths (does : List ℕ → List ℕ → Files F → Files F → ℕ → Type 0)
+      (beside a beside' a' : ℕ) (old new : Files F) (answer : ℕ) (accesses : List Access)
+      : Type 0 where
+    AreDone : (path path' : List ℕ) (first later : List Access)
+        → TakesPath bytes old.descriptors.are_open beside a (Ok path) first
+        → TakesPath bytes old.descriptors.are_open beside' a' (Ok path') later
+        → accesses ≡ first ++ later → does path path' old new answer → bytes' ≡ bytes
+        → ByPaths does beside a beside' a' old new answer accesses
+    FirstIsRefused :
+        TakesPath bytes old.descriptors.are_open beside a (Err answer) accesses
+        → new ≡ old → bytes' ≡ bytes → ByPaths does beside a beside' a' old new answer accesses
+    SecondIsRefused : (path : List ℕ) (first later : List Access)
+        → TakesPath bytes old.descriptors.are_open beside a (Ok path) first
+        → TakesPath bytes old.descriptors.are_open beside' a' (Err answer) later
+        → accesses ≡ first ++ later → new ≡ old → bytes' ≡ bytes
+        → ByPaths does beside a beside' a' old new answer accesses
+
+  -- read and, from an offset, pread64: at once, so many bytes at most, which are put at a one after
+  -- another
+  pub data ReadsFile (descriptor : ℕ) (from : Option ℕ) (a count : ℕ) (old new : Files F)
+      (answer : ℕ) (accesses : List Access) : Type 0 where
+    -- EBADF is 9, and EFAULT 14
+    NotOpenToRead :
+        IsClosed old.descriptors.are_open descriptor
+        → new ≡ old → bytes' ≡ bytes → accesses ≡ [] → answer ≡ error 9
+        → ReadsFile descriptor from a count old new answer accesses
+    ReadPassesEnd : (place : ℕ)
+        → IsOpen old.descriptors.are_open descriptor place → 2 ^ 32 < a + count
+        → new ≡ old → bytes' ≡ bytes → accesses ≡ [] → answer ≡ error 14
+        → ReadsFile descriptor from a count old new answer accesses
+    ReadFailed : (place : ℕ) (folder : F)
+        → IsOpen old.descriptors.are_open descriptor place → a + count ≤ 2 ^ 32
+        → did old.folder (Gave place from (min count most_of_file) (Err answer)) folder
+        → new ≡ record old { folder = folder } → bytes' ≡ bytes → accesses ≡ []
+        → ReadsFile descriptor from a count old new answer accesses
+    IsGiven : (place : ℕ) (folder : F) (text left : List ℕ)
+        → IsOpen old.descriptors.are_open descriptor place → a + count ≤ 2 ^ 32
+        → did old.folder (Gave place from (min count most_of_file) (Ok text)) folder
+        → new ≡ record old { folder = folder }
+        → GivesText writable bytes bytes' a (min count most_of_file) text left answer accesses
+        → ReadsFile descriptor from a count old new answer accesses
+
+  -- write and, from an offset, pwrite64: at once, so many bytes at most, from a on
+  pub data WritesFile (descriptor : ℕ) (from : Option ℕ) (a count : ℕ) (old new : Files F) (answer : ℕ)
+      (accesses : List Access) : Type 0 where
+    NotOpenToWrite :
+        IsClosed old.descriptors.are_open descriptor
+        → new ≡ old → bytes' ≡ bytes → accesses ≡ [] → answer ≡ error 9
+        → WritesFile descriptor from a count old new answer accesses
+    WritePassesEnd : (place : ℕ)
+        → IsOpen old.descriptors.are_open descriptor place → 2 ^ 32 < a + count
+        → new ≡ old → bytes' ≡ bytes → accesses ≡ [] → answer ≡ error 14
+        → WritesFile descriptor from a count old new answer accesses
+    -- the first byte is not mapped
+    IsUnmapped : (place : ℕ)
+        → IsOpen old.descriptors.are_open descriptor place → a + count ≤ 2 ^ 32
+        → 0 < count → bytes a ≡ None
+        → new ≡ old → bytes' ≡ bytes → accesses ≡ byte_reads bytes a 1 → answer ≡ error 14
+        → WritesFile descriptor from a count old new answer accesses
+    IsWritten : (place : ℕ) (folder : F) (text : List ℕ) (reads : ℕ) (taken : Result ℕ ℕ)
+        → IsOpen old.descriptors.are_open descriptor place → a + count ≤ 2 ^ 32
+        → Stands bytes a text → ReadsBuffer bytes a (min count most_of_file) text reads
+        → did old.folder (Took place from text taken) folder
+        → new ≡ record old { folder = folder } → bytes' ≡ bytes
+        → accesses ≡ byte_reads bytes a reads → answer ≡ taken_of taken
+        → WritesFile descriptor from a count old new answer accesses
+
+  -- _llseek: the position is put at a, in 8 bytes
+  pub data SeeksFile (descriptor offset from a : ℕ) (old new : Files F) (answer : ℕ)
+      (accesses : List Access) : Type 0 where
+    NotOpenToSeek :
+        IsClosed old.descriptors.are_open descriptor
+        → new ≡ old → bytes' ≡ bytes → accesses ≡ [] → answer ≡ error 9
+        → SeeksFile descriptor offset from a old new answer accesses
+    -- EINVAL is 22
+    IsFromNowhere : (place : ℕ)
+        → IsOpen old.descriptors.are_open descriptor place → 2 < from
+        → new ≡ old → bytes' ≡ bytes → accesses ≡ [] → answer ≡ error 22
+        → SeeksFile descriptor offset from a old new answer accesses
+    SeekFailed : (place : ℕ) (folder : F)
+        → IsOpen old.descriptors.are_open descriptor place → from ≤ 2
+        → did old.folder (Sought place from offset (Err answer)) folder
+        → new ≡ record old { folder = folder } → bytes' ≡ bytes → accesses ≡ []
+        → SeeksFile descriptor offset from a old new answer accesses
+    IsMoved : (place position : ℕ) (folder : F)
+        → IsOpen old.descriptors.are_open descriptor place → from ≤ 2
+        → did old.folder (Sought place from offset (Ok position)) folder
+        → new ≡ record old { folder = folder }
+        → PutsBytes writable bytes bytes' a (to_le_bytes w64 position) accesses answer
+        → SeeksFile descriptor offset from a old new answer accesses
+
+  -- fstat64
+  pub data TellsFile (descriptor a : ℕ) (old new : Files F) (answer : ℕ) (accesses : List Access)
+      : Type 0 where
+    NotOpenToTell :
+        IsClosed old.descriptors.are_open descriptor
+        → new ≡ old → bytes' ≡ bytes → accesses ≡ [] → answer ≡ error 9
+        → TellsFile descriptor a old new answer accesses
+    TellFailed : (place : ℕ) (folder : F)
+        → IsOpen old.descriptors.are_open descriptor place
+        → did old.folder (Told place (Err answer)) folder
+        → new ≡ record old { folder = folder } → bytes' ≡ bytes → accesses ≡ []
+        → TellsFile descriptor a old new answer accesses
+    IsTold : (place : ℕ) (folder : F) (status : Status)
+        → IsOpen old.descriptors.are_open descriptor place
+        → did old.folder (Told place (Ok status)) folder
+        → new ≡ record old { folder = folder }
+        → PutsBytes writable bytes bytes' a (status_bytes status) accesses answer
+        → TellsFile descriptor a old new answer accesses
+
+  -- fstatat64: of a path, or of a descriptor
+  pub data TellsNamed (beside path flags a : ℕ) (old new : Files F) (answer : ℕ)
+      (accesses : List Access) : Type 0 where
+    IsOfDescriptor : (e : ℕ) (first later : List Access)
+        → TakesPath bytes old.descriptors.are_open beside path (Err e) first
+        → is_of_descriptor e flags ≡ true
+        → TellsFile beside a old new answer later → accesses ≡ first ++ later
+        → TellsNamed beside path flags a old new answer accesses
+    IsForbiddenPath :
+        TakesPath bytes old.descriptors.are_open beside path (Err answer) accesses
+        → is_of_descriptor answer flags ≡ false
+        → new ≡ old → bytes' ≡ bytes → TellsNamed beside path flags a old new answer accesses
+    HasNoStatus : (text : List ℕ) (named : Named) (folder : F)
+        → TakesPath bytes old.descriptors.are_open beside path (Ok text) accesses
+        → Walks did text old.folder folder named → naming named flags ≡ Err answer
+        → new ≡ record old { folder = folder } → bytes' ≡ bytes
+        → TellsNamed beside path flags a old new answer accesses
+    IsToldByName : (text : List ℕ) (named : Named) (folder : F) (status : Status)
+        (first later : List Access)
+        → TakesPath bytes old.descriptors.are_open beside path (Ok text) first
+        → Walks did text old.folder folder named → naming named flags ≡ Ok status
+        → new ≡ record old { folder = folder }
+        → PutsBytes writable bytes bytes' a (status_bytes status) later answer
+        → accesses ≡ first ++ later
+        → TellsNamed beside path flags a old new answer accesses
+
+  -- what is asked for takes the files from the first to the second
+  abbrev pub DoesFile : FileRequest → Files F → Files F → ℕ → List Access → Type 0
+  DoesFile (FileRequest.Open beside path flags mode) old new answer accesses =
+      ByPath (λ text. Opens did text flags mode) beside path old new answer accesses
+  DoesFile (FileRequest.Close descriptor) old new answer accesses =
+      Closes did descriptor old new answer × (bytes' ≡ bytes) × (accesses ≡ [])
+  DoesFile (FileRequest.Seek descriptor offset from a) old new answer accesses =
+      SeeksFile descriptor offset from a old new answer accesses
+  DoesFile (FileRequest.Read descriptor a count) old new answer accesses =
+      ReadsFile descriptor None a count old new answer accesses
+  DoesFile (FileRequest.ReadAt descriptor offset a count) old new answer accesses =
+      ReadsFile descriptor (Some offset) a count old new answer accesses
+  DoesFile (FileRequest.Write descriptor a count) old new answer accesses =
+      WritesFile descriptor None a count old new answer accesses
+  DoesFile (FileRequest.WriteAt descriptor offset a count) old new answer accesses =
+      WritesFile descriptor (Some offset) a count old new answer accesses
+  DoesFile (FileRequest.Status descriptor a) old new answer accesses =
+      TellsFile descriptor a old new answer accesses
+  DoesFile (FileRequest.NamedStatus beside path flags a) old new answer accesses =
+      TellsNamed beside path flags a old new answer accesses
+  DoesFile (FileRequest.ChangeFile descriptor change) old new answer accesses =
+      Changes did descriptor change old new answer × (bytes' ≡ bytes) × (accesses ≡ [])
+  DoesFile (FileRequest.ChangeName beside path change) old new answer accesses =
+      ByPath (λ text. ChangesName did text change) beside path old new answer accesses
+  DoesFile (FileRequest.Rename beside path beside' path') old new answer accesses =
+      ByPaths (Renames did) beside path beside' path' old new answer accesses
+  DoesFile (FileRequest.Test beside path asked) old new answer accesses =
+      ByPath (λ text. Tests did text asked) beside path old new answer accesses
+  DoesFile (FileRequest.Control descriptor command) old new answer accesses =
+      Controls did descriptor command old new answer × (bytes' ≡ bytes) × (accesses ≡ [])
+  DoesFile (FileRequest.Folder a size) old new answer accesses =
+      TellsFolder writable bytes bytes' a size answer accesses × (new ≡ old)
+  DoesFile (FileRequest.Refused said) old new answer accesses =
+      (new ≡ old) × (bytes' ≡ bytes) × (accesses ≡ []) × (answer ≡ said)
+
+-- What a call does: it is one for the files, which the machine goes on after, with the answer in
+-- a0; or it is for the other environment, and the files stay.
+pub data ServesFiles {P F : Type 0} (serves : Relation P) (did : Did F) (old : WithFiles P F)
+    (s : State) (new : WithFiles P F) (t : State) (accesses : List Access) (end : Option ℕ)
+    : Type 0 where
+  IsFile : (request : FileRequest) (bytes : ByteMap) (answer : ℕ)
+      → AsksFile s (Some request)
+      → DoesFile did s.writable s.bytes bytes request old.files new.files answer accesses
+      → t ≡ answered (record s { bytes = bytes }) answer → end ≡ None
+      → new.process.now ≡ old.process.now
+      → ServesFiles serves did old s new t accesses end
+  IsOther :
+      AsksFile s None
+      → serves old.process.now s new.process.now t accesses end → new.files ≡ old.files
+      → ServesFiles serves did old s new t accesses end

@@ -1,0 +1,132 @@
+-- Which calls for files there are (the Linux system call convention of RISC-V with 32 bits, as
+-- rrs_linux restates it; the numbers are those of asm-generic/unistd.h). A call on a descriptor
+-- from 0 to 2 is for the standard streams, and so for the other environment, as is each call that
+-- is not here.
+use Rattle.std.specs.Prelude.{◌≡◌, ◌≢◌, ◌⊎◌, ℕ, ◌+◌, ◌*◌, ◌^◌, ◌<◌, ◌≤◌, ◌==◌, ◌||◌, not, bit_and, Bool, Option, Some, None}
+use Rattle.rrs_lib.specs.Machine.{State, reg}
+use Rattle.rrs_linux.specs.Requests.{error}
+use Rattle.rrs_files.specs.declared.folder.Change.TheVariants.{Length, Flush, FlushBytes, Mode}
+use Rattle.rrs_files.specs.declared.folder.How.{How}
+use Rattle.rrs_files.specs.declared.folder.NameChange.TheVariants.{Remove, RemoveDirectory, MakeDirectory}
+use Rattle.rrs_files.specs.declared.requests.FileRequest.{FileRequest}
+use Rattle.rrs_files.specs.declared.requests.FileRequest.TheVariants.{Open, Close, Seek, Read, ReadAt, Write, WriteAt, Status, NamedStatus, ChangeFile, ChangeName, Rename, Test, Control, Folder, Refused}
+
+-- fstatat64, close, read, write, fstat64, _llseek, statx, ftruncate64, fsync, fdatasync, fchmod,
+-- fcntl64, pread64 and pwrite64, whose first argument is a descriptor
+abbrev pub TakesDescriptor : ℕ → Type 0
+TakesDescriptor call =
+    (call ≡ 79) ⊎ (call ≡ 57) ⊎ (call ≡ 63) ⊎ (call ≡ 64) ⊎ (call ≡ 80) ⊎ (call ≡ 62)
+    ⊎ (call ≡ 291) ⊎ (call ≡ 46) ⊎ (call ≡ 82) ⊎ (call ≡ 83) ⊎ (call ≡ 52) ⊎ (call ≡ 25)
+    ⊎ (call ≡ 67) ⊎ (call ≡ 68)
+
+-- openat, unlinkat, mkdirat, faccessat, renameat2 and getcwd, which name a file
+abbrev pub TakesPath : ℕ → Type 0
+TakesPath call =
+    (call ≡ 56) ⊎ (call ≡ 35) ⊎ (call ≡ 34) ⊎ (call ≡ 48) ⊎ (call ≡ 276) ⊎ (call ≡ 17)
+
+-- what a call with this number and these arguments asks for
+pub data AsksFileBy (call a0 a1 a2 a3 a4 : ℕ) (request : Option FileRequest) : Type 0 where
+  -- openat(2): a path beside a descriptor, flags, and a mode
+  ToOpen : call ≡ 56 → request ≡ Some (Open a0 a1 a2 a3) → AsksFileBy call a0 a1 a2 a3 a4 request
+  -- unlinkat(2), with no flag or AT_REMOVEDIR (0x200)
+  ToRemove :
+      call ≡ 35 → a2 ≡ 0 → request ≡ Some (ChangeName a0 a1 Remove)
+      → AsksFileBy call a0 a1 a2 a3 a4 request
+  ToRemoveDirectory :
+      call ≡ 35 → a2 ≡ 0x200 → request ≡ Some (ChangeName a0 a1 RemoveDirectory)
+      → AsksFileBy call a0 a1 a2 a3 a4 request
+  -- EINVAL is 22
+  ToRemoveSo :
+      call ≡ 35 → a2 ≢ 0 → a2 ≢ 0x200 → request ≡ Some (Refused (error 22))
+      → AsksFileBy call a0 a1 a2 a3 a4 request
+  -- mkdirat(2)
+  ToMakeDirectory :
+      call ≡ 34 → request ≡ Some (ChangeName a0 a1 (MakeDirectory (bit_and a2 0o1777)))
+      → AsksFileBy call a0 a1 a2 a3 a4 request
+  -- renameat2(2), with no flag
+  ToRename :
+      call ≡ 276 → a4 ≡ 0 → request ≡ Some (Rename a0 a1 a2 a3)
+      → AsksFileBy call a0 a1 a2 a3 a4 request
+  ToRenameSo :
+      call ≡ 276 → a4 ≢ 0 → request ≡ Some (Refused (error 22))
+      → AsksFileBy call a0 a1 a2 a3 a4 request
+  -- faccessat(2): R_OK is 4, W_OK 2 and X_OK 1
+  ToTest :
+      call ≡ 48 → a2 ≤ 7 → request ≡ Some (Test a0 a1 a2) → AsksFileBy call a0 a1 a2 a3 a4 request
+  ToTestSo :
+      call ≡ 48 → 7 < a2 → request ≡ Some (Refused (error 22))
+      → AsksFileBy call a0 a1 a2 a3 a4 request
+  -- getcwd(2)
+  ToTellFolder :
+      call ≡ 17 → request ≡ Some (Folder a0 a1) → AsksFileBy call a0 a1 a2 a3 a4 request
+  -- ftruncate(2): the low and the high half of the length
+  ToSetLength :
+      call ≡ 46 → 2 < a0 → request ≡ Some (ChangeFile a0 (Length (a2 * 2 ^ 32 + a1)))
+      → AsksFileBy call a0 a1 a2 a3 a4 request
+  ToFlush :
+      call ≡ 82 → 2 < a0 → request ≡ Some (ChangeFile a0 Flush)
+      → AsksFileBy call a0 a1 a2 a3 a4 request
+  ToFlushBytes :
+      call ≡ 83 → 2 < a0 → request ≡ Some (ChangeFile a0 FlushBytes)
+      → AsksFileBy call a0 a1 a2 a3 a4 request
+  -- fchmod(2)
+  ToSetMode :
+      call ≡ 52 → 2 < a0 → request ≡ Some (ChangeFile a0 (Mode (bit_and a1 0o7777)))
+      → AsksFileBy call a0 a1 a2 a3 a4 request
+  -- fcntl(2)
+  ToControl :
+      call ≡ 25 → 2 < a0 → request ≡ Some (Control a0 a1) → AsksFileBy call a0 a1 a2 a3 a4 request
+  -- fstatat64 (fstatat(2)): the status is put at a2, and the flags are a3
+  ToGetNamed :
+      call ≡ 79 → 2 < a0 → request ≡ Some (NamedStatus a0 a1 a3 a2)
+      → AsksFileBy call a0 a1 a2 a3 a4 request
+  ToClose : call ≡ 57 → 2 < a0 → request ≡ Some (Close a0) → AsksFileBy call a0 a1 a2 a3 a4 request
+  ToRead : call ≡ 63 → 2 < a0 → request ≡ Some (Read a0 a1 a2) → AsksFileBy call a0 a1 a2 a3 a4 request
+  ToWrite : call ≡ 64 → 2 < a0 → request ≡ Some (Write a0 a1 a2) → AsksFileBy call a0 a1 a2 a3 a4 request
+  -- pread(2) and pwrite(2): the low and the high half of the offset
+  ToReadAt :
+      call ≡ 67 → 2 < a0 → request ≡ Some (ReadAt a0 (a4 * 2 ^ 32 + a3) a1 a2)
+      → AsksFileBy call a0 a1 a2 a3 a4 request
+  ToWriteAt :
+      call ≡ 68 → 2 < a0 → request ≡ Some (WriteAt a0 (a4 * 2 ^ 32 + a3) a1 a2)
+      → AsksFileBy call a0 a1 a2 a3 a4 request
+  ToGetStatus : call ≡ 80 → 2 < a0 → request ≡ Some (Status a0 a1) → AsksFileBy call a0 a1 a2 a3 a4 request
+  -- _llseek(2): the high and the low half of the offset, where the position is put, and from where
+  ToSeek :
+      call ≡ 62 → 2 < a0 → request ≡ Some (Seek a0 (a1 * 2 ^ 32 + a2) a4 a3)
+      → AsksFileBy call a0 a1 a2 a3 a4 request
+  -- statx is not served: a C library takes fstatat64 then (ENOSYS is 38)
+  ToExtend :
+      call ≡ 291 → 2 < a0 → request ≡ Some (Refused (error 38))
+      → AsksFileBy call a0 a1 a2 a3 a4 request
+  OfOther :
+      (TakesPath call → ⊥) → (TakesDescriptor call → a0 ≤ 2) → request ≡ None
+      → AsksFileBy call a0 a1 a2 a3 a4 request
+
+-- what the call of a machine at an ecall asks for
+abbrev pub AsksFile : State → Option FileRequest → Type 0
+AsksFile s request =
+    AsksFileBy (reg s 17) (reg s 10) (reg s 11) (reg s 12) (reg s 13) (reg s 14) request
+
+-- ---- the flags of openat
+
+-- How a file is opened by flags and a mode (fcntl.h): O_WRONLY is 1, O_RDWR 2, O_CREAT 0x40, O_EXCL
+-- 0x80, O_TRUNC 0x200 and O_APPEND 0x400. The other flags change nothing here.
+abbrev pub how_of : (flags mode : ℕ) → How
+how_of flags mode = record {
+  reads = bit_and flags 1 == 0;
+  writes = not (bit_and flags 3 == 0);
+  appends = not (bit_and flags 0x400 == 0);
+  creates = not (bit_and flags 0x40 == 0);
+  is_new = not (bit_and flags 0x80 == 0);
+  truncates = not (bit_and flags 0x200 == 0);
+  mode = bit_and mode 0o777;
+}
+
+-- flags that are not served: both O_WRONLY and O_RDWR, O_DIRECTORY (0x10000), O_PATH (0x200000)
+abbrev pub not_served : ℕ → Bool
+not_served flags = (bit_and flags 3 == 3) || not (bit_and flags 0x210000 == 0)
+
+-- what changes files
+abbrev pub changes : How → Bool
+changes how = how.writes || how.creates || how.truncates

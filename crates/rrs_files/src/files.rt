@@ -1,0 +1,274 @@
+//! The files of a program, and what the calls do to them whose path is read.
+
+ghost use Rattle.std.specs.Prelude.{◌≡◌, ◌&&◌};
+ghost use Rattle.rrs_files.specs.Acts.{Changes, ChangesName, Closes, Controls, Opens, Renames, Tests, control_answer, denying, keeping, moving, needs_right, opening, replacing};
+ghost use Rattle.rrs_files.specs.Requests.{changes, not_served};
+
+use crate::descriptors::{Descriptors, descriptor_at};
+use crate::errors::{
+    A_DIRECTORY, ACCESS_DENIED, BAD_ARGUMENT, BAD_DESCRIPTOR, IS_LINK, IS_THERE, MANY_OPEN,
+    NO_DIRECTORY, NO_FILE, READ_ONLY,
+};
+use crate::folder::{Change, Folder, How, NameChange};
+use crate::paths::{IS_DIRECTORY, IS_FILE, IS_SYMBOLIC, Named, kind_of, walk};
+use crate::requests::how_of;
+
+/// The flags of `openat` that are not served: `O_DIRECTORY` and `O_PATH`, and so `O_TMPFILE`.
+const NOT_SERVED: u32 = 0x21_0000;
+
+/// The commands of `fcntl` for the flags of a descriptor: `F_GETFD`, `F_SETFD`.
+const GET_FLAGS: u32 = 1;
+
+const SET_FLAGS: u32 = 2;
+
+/// To write, of what is asked of `faccessat`: `W_OK`.
+const TO_WRITE: u32 = 2;
+
+/// What its owner may do with a file stands so far up in its mode: 2^6.
+const OF_OWNER: u32 = 64;
+
+/// The files of a program: those below a folder, and which of them are open.
+#[derive(Drop)]
+pub struct Files<F> {
+    /// The folder.
+    pub folder: F,
+    /// The descriptors that are open.
+    pub descriptors: Descriptors,
+    /// Whether files may only be read.
+    pub is_read_only: bool,
+}
+
+impl<F: Folder> Files<F> {
+    /// Opens what a path names, at the first descriptor that is free, and gives the answer of the
+    /// call.
+    pub fn open(&mut self, path: &[u8], flags: u32, mode: u32) -> u32
+        ensures { Opens F.did path.now flags mode self.old self.new result }
+    {
+        let how = how_of(flags, mode);
+        if not_served(flags) {
+            return BAD_ARGUMENT;
+        }
+        if is_kept_out(self.is_read_only, how) {
+            return READ_ONLY;
+        }
+        let place = match self.descriptors.free_place() {
+            Some(place) => place,
+            None => return MANY_OPEN,
+        };
+        match opening(walk(&mut self.folder, path), how) {
+            Some(refused) => return refused,
+            None => {}
+        }
+        match self.folder.open(place, path, how) {
+            Some(failed) => failed,
+            None => {
+                self.descriptors.set(place, true);
+                descriptor_at(place)
+            }
+        }
+    }
+
+    /// Closes a descriptor, and gives the answer of the call.
+    pub fn close(&mut self, descriptor: u32) -> u32
+        ensures { Closes F.did descriptor self.old self.new result }
+    {
+        let Some(place) = self.descriptors.place_of(descriptor) else {
+            return BAD_DESCRIPTOR;
+        };
+        self.folder.close(place);
+        self.descriptors.set(place, false);
+        0
+    }
+
+    /// Changes the file of a descriptor, and gives the answer of the call.
+    pub fn change(&mut self, descriptor: u32, change: Change) -> u32
+        ensures { Changes F.did descriptor change self.old self.new result }
+    {
+        let Some(place) = self.descriptors.place_of(descriptor) else {
+            return BAD_DESCRIPTOR;
+        };
+        if is_kept(self.is_read_only, change) {
+            return READ_ONLY;
+        }
+        self.folder.change(place, change).unwrap_or(0)
+    }
+
+    /// Changes the name that a path is, and gives the answer of the call.
+    pub fn change_name(&mut self, path: &[u8], change: NameChange) -> u32
+        ensures { ChangesName F.did path.now change self.old self.new result }
+    {
+        if self.is_read_only {
+            return READ_ONLY;
+        }
+        match keeping(walk(&mut self.folder, path), change) {
+            Some(error) => error,
+            None => self.folder.change_name(path, change).unwrap_or(0),
+        }
+    }
+
+    /// Gives what a path names another name, and gives the answer of the call.
+    pub fn rename(&mut self, from: &[u8], to: &[u8]) -> u32
+        ensures { Renames F.did from.now to.now self.old self.new result }
+    {
+        if self.is_read_only {
+            return READ_ONLY;
+        }
+        let named = walk(&mut self.folder, from);
+        match moving(named) {
+            Some(error) => return error,
+            None => {}
+        }
+        let there = walk(&mut self.folder, to);
+        match replacing(there) {
+            Some(error) => error,
+            None => self.folder.rename(from, to).unwrap_or(0),
+        }
+    }
+
+    /// Whether what a path names may be reached so: the answer of the call.
+    pub fn test(&mut self, path: &[u8], asked: u32) -> u32
+        ensures { Tests F.did path.now asked self.old self.new result }
+    {
+        let named = walk(&mut self.folder, path);
+        denying(named, asked, self.is_read_only).unwrap_or(0)
+    }
+
+    /// Does a command of `fcntl` on a descriptor, and gives the answer of the call.
+    pub fn control(&self, descriptor: u32, command: u32) -> u32
+        ensures { Controls F.did descriptor command self.now self.now result }
+    {
+        match self.descriptors.place_of(descriptor) {
+            Some(_) => answer_to(command),
+            None => BAD_DESCRIPTOR,
+        }
+    }
+}
+
+/// Whether flags of `openat` are not served.
+fn not_served(flags: u32) -> bool
+    ensures { result ≡ not_served flags }
+{
+    flags & 3 == 3 || flags & NOT_SERVED != 0
+}
+
+/// Whether files may only be read, and are opened otherwise.
+fn is_kept_out(is_read_only: bool, how: How) -> bool
+    ensures { result ≡ (is_read_only && changes how) }
+{
+    is_read_only && (how.writes || how.creates || how.truncates)
+}
+
+/// Why what a path names isn't opened, if it isn't.
+fn opening(named: Named, how: How) -> Option<u32>
+    ensures { result ≡ opening named how }
+{
+    let status = match named {
+        Named::Stopped(error) => return Some(error),
+        Named::Missing => return if how.creates { None } else { Some(NO_FILE) },
+        Named::There(status) => status,
+    };
+    if how.creates && how.is_new {
+        return Some(IS_THERE);
+    }
+    match kind_of(&status) {
+        IS_FILE => None,
+        IS_SYMBOLIC => Some(IS_LINK),
+        IS_DIRECTORY => Some(A_DIRECTORY),
+        _ => Some(ACCESS_DENIED),
+    }
+}
+
+/// Whether files may only be read, and don't have a change then.
+fn is_kept(is_read_only: bool, change: Change) -> bool
+    ensures { result ≡ (is_read_only && needs_right change) }
+{
+    is_read_only && matches!(change, Change::Mode(_))
+}
+
+/// The answer to a command of `fcntl` on a descriptor that is open.
+fn answer_to(command: u32) -> u32
+    ensures { result ≡ control_answer command }
+{
+    if command == GET_FLAGS || command == SET_FLAGS {
+        0
+    } else {
+        BAD_ARGUMENT
+    }
+}
+
+/// Why a name isn't changed, if it isn't.
+fn keeping(named: Named, change: NameChange) -> Option<u32>
+    ensures { result ≡ keeping named change }
+{
+    let status = match named {
+        Named::Stopped(error) => return Some(error),
+        Named::Missing => {
+            return match change {
+                NameChange::MakeDirectory(_) => None,
+                _ => Some(NO_FILE),
+            };
+        }
+        Named::There(status) => status,
+    };
+    let is_directory = kind_of(&status) == IS_DIRECTORY;
+    match change {
+        NameChange::MakeDirectory(_) => Some(IS_THERE),
+        NameChange::Remove => if is_directory {
+            Some(A_DIRECTORY)
+        } else {
+            None
+        },
+        NameChange::RemoveDirectory => if is_directory {
+            None
+        } else {
+            Some(NO_DIRECTORY)
+        },
+    }
+}
+
+/// Why what a path names isn't renamed, if it isn't.
+fn moving(named: Named) -> Option<u32>
+    ensures { result ≡ moving named }
+{
+    match named {
+        Named::Stopped(error) => Some(error),
+        Named::Missing => Some(NO_FILE),
+        Named::There(status) if kind_of(&status) == IS_SYMBOLIC => Some(IS_LINK),
+        Named::There(_) => None,
+    }
+}
+
+/// Why no name is put in the place of what a path names, if none is.
+fn replacing(named: Named) -> Option<u32>
+    ensures { result ≡ replacing named }
+{
+    match named {
+        Named::Stopped(error) => Some(error),
+        Named::Missing => None,
+        Named::There(status) if kind_of(&status) == IS_SYMBOLIC => Some(IS_LINK),
+        Named::There(_) => None,
+    }
+}
+
+/// Why what a path names may not be reached so, if it may not.
+fn denying(named: Named, asked: u32, is_read_only: bool) -> Option<u32>
+    ensures { result ≡ denying named asked is_read_only }
+{
+    let status = match named {
+        Named::Stopped(error) => return Some(error),
+        Named::Missing => return Some(NO_FILE),
+        Named::There(status) => status,
+    };
+    if kind_of(&status) == IS_SYMBOLIC {
+        return Some(IS_LINK);
+    }
+    if is_read_only && asked & TO_WRITE != 0 {
+        return Some(READ_ONLY);
+    }
+    let of_owner = (asked & 7) * OF_OWNER;
+    if status.mode & of_owner == of_owner {
+        None
+    } else {
+        Some(ACCESS_DENIED)
+    }
+}

@@ -1,0 +1,203 @@
+//! What a program asks for of its files.
+
+ghost use Rattle.std.specs.Prelude.{◌≡◌, ◌<◌, ℕ, Bool, Option};
+ghost use Rattle.rrs_lib.specs.Machine.{state_of};
+ghost use Rattle.rrs_files.specs.Requests.{AsksFile, AsksFileBy, TakesPath, how_of};
+
+use crate::errors::{BAD_ARGUMENT, NO_SUCH_CALL};
+use crate::folder::{Change, How, NameChange};
+use rrs_lib::HartState;
+
+/// `getcwd`.
+const GETCWD: u32 = 17;
+/// `fcntl64`.
+const FCNTL64: u32 = 25;
+/// `mkdirat`.
+const MKDIRAT: u32 = 34;
+/// `unlinkat`.
+const UNLINKAT: u32 = 35;
+/// `ftruncate64`.
+const FTRUNCATE64: u32 = 46;
+/// `faccessat`.
+const FACCESSAT: u32 = 48;
+/// `fchmod`.
+const FCHMOD: u32 = 52;
+/// `openat`.
+const OPENAT: u32 = 56;
+/// `close`.
+const CLOSE: u32 = 57;
+/// `_llseek`.
+const LLSEEK: u32 = 62;
+/// `read`.
+const READ: u32 = 63;
+/// `write`.
+const WRITE: u32 = 64;
+/// `pread64`.
+const PREAD64: u32 = 67;
+/// `pwrite64`.
+const PWRITE64: u32 = 68;
+/// `fstatat64`.
+const FSTATAT64: u32 = 79;
+/// `fstat64`.
+const FSTAT64: u32 = 80;
+/// `fsync`.
+const FSYNC: u32 = 82;
+/// `fdatasync`.
+const FDATASYNC: u32 = 83;
+/// `renameat2`.
+const RENAMEAT2: u32 = 276;
+/// `statx`.
+const STATX: u32 = 291;
+
+/// The flag of `unlinkat` that removes a directory, `AT_REMOVEDIR`.
+const A_DIRECTORY_TOO: u32 = 0x200;
+
+/// What a call asks for of the files.
+#[derive(Clone, Copy, Debug, PartialEq)]
+pub enum FileRequest {
+    /// To open a file: beside a descriptor, by the path at an address, with flags and a mode.
+    Open(u32, u32, u32, u32),
+    /// To close a descriptor.
+    Close(u32),
+    /// To move the position of a descriptor, by an offset of 64 bits, from a place, and to put it
+    /// at an address: descriptor, offset, place, address.
+    Seek(u32, u64, u32, u32),
+    /// To read from a descriptor, to an address, so many bytes at most.
+    Read(u32, u32, u32),
+    /// To read from a descriptor, from an offset on, to an address, so many bytes at most.
+    ReadAt(u32, u64, u32, u32),
+    /// To write to a descriptor, from an address, so many bytes at most.
+    Write(u32, u32, u32),
+    /// To write to a descriptor, from an offset on, from an address, so many bytes at most.
+    WriteAt(u32, u64, u32, u32),
+    /// To put the status of a descriptor at an address.
+    Status(u32, u32),
+    /// To put the status of a file at an address: beside a descriptor, by the path at an address,
+    /// with flags.
+    NamedStatus(u32, u32, u32, u32),
+    /// To change the file of a descriptor.
+    ChangeFile(u32, Change),
+    /// To change a name: beside a descriptor, by the path at an address.
+    ChangeName(u32, u32, NameChange),
+    /// To give a file another name: beside a descriptor, by the path at an address, and both for
+    /// the new name.
+    Rename(u32, u32, u32, u32),
+    /// Whether a file may be read (4), written (2) or executed (1): beside a descriptor, by the
+    /// path at an address, and a sum of these.
+    Test(u32, u32, u32),
+    /// To do a command of `fcntl` on a descriptor.
+    Control(u32, u32),
+    /// To put the path of the working directory at an address, where there is room for so many
+    /// bytes.
+    Folder(u32, u32),
+    /// Nothing: this is the answer.
+    Refused(u32),
+}
+
+/// What the call of a hart at an `ecall` asks for of the files, if it is one for them.
+pub fn file_request_of(hart: &HartState) -> Option<FileRequest>
+    ensures { (bytes : ℕ → Option ℕ) (writable : ℕ → Bool)
+        → AsksFile (state_of hart.now bytes writable) result }
+{
+    let call = hart.read_register(17);
+    let first = hart.read_register(10);
+    let second = hart.read_register(11);
+    let third = hart.read_register(12);
+    let fourth = hart.read_register(13);
+    let fifth = hart.read_register(14);
+    request_by(call, first, second, third, fourth, fifth)
+}
+
+/// What a call with this number and these arguments asks for.
+fn request_by(
+    call: u32,
+    first: u32,
+    second: u32,
+    third: u32,
+    fourth: u32,
+    fifth: u32,
+) -> Option<FileRequest>
+    ensures { AsksFileBy call first second third fourth fifth result }
+{
+    match call {
+        OPENAT => Some(FileRequest::Open(first, second, third, fourth)),
+        GETCWD => Some(FileRequest::Folder(first, second)),
+        UNLINKAT if third == 0 => {
+            Some(FileRequest::ChangeName(first, second, NameChange::Remove))
+        }
+        UNLINKAT if third == A_DIRECTORY_TOO => {
+            Some(FileRequest::ChangeName(first, second, NameChange::RemoveDirectory))
+        }
+        UNLINKAT => Some(FileRequest::Refused(BAD_ARGUMENT)),
+        MKDIRAT => {
+            let made = NameChange::MakeDirectory(third & 0o1777);
+            Some(FileRequest::ChangeName(first, second, made))
+        }
+        RENAMEAT2 if fifth == 0 => Some(FileRequest::Rename(first, second, third, fourth)),
+        RENAMEAT2 => Some(FileRequest::Refused(BAD_ARGUMENT)),
+        FACCESSAT if third <= 7 => Some(FileRequest::Test(first, second, third)),
+        FACCESSAT => Some(FileRequest::Refused(BAD_ARGUMENT)),
+        _ if first > 2 => request_on(call, first, second, third, fourth, fifth),
+        _ => None,
+    }
+}
+
+/// What a call with this number and these arguments asks for, of which the first is a descriptor of
+/// a file.
+fn request_on(
+    call: u32,
+    first: u32,
+    second: u32,
+    third: u32,
+    fourth: u32,
+    fifth: u32,
+) -> Option<FileRequest>
+    requires path { TakesPath call → ⊥ }
+    requires file { 2 < first }
+    ensures { AsksFileBy call first second third fourth fifth result }
+{
+    match call {
+        FSTATAT64 => Some(FileRequest::NamedStatus(first, second, fourth, third)),
+        CLOSE => Some(FileRequest::Close(first)),
+        READ => Some(FileRequest::Read(first, second, third)),
+        WRITE => Some(FileRequest::Write(first, second, third)),
+        PREAD64 => {
+            let offset = u64::from(fifth) << 32 | u64::from(fourth);
+            Some(FileRequest::ReadAt(first, offset, second, third))
+        }
+        PWRITE64 => {
+            let offset = u64::from(fifth) << 32 | u64::from(fourth);
+            Some(FileRequest::WriteAt(first, offset, second, third))
+        }
+        FSTAT64 => Some(FileRequest::Status(first, second)),
+        LLSEEK => {
+            let offset = u64::from(second) << 32 | u64::from(third);
+            Some(FileRequest::Seek(first, offset, fifth, fourth))
+        }
+        FTRUNCATE64 => {
+            let length = u64::from(third) << 32 | u64::from(second);
+            Some(FileRequest::ChangeFile(first, Change::Length(length)))
+        }
+        FSYNC => Some(FileRequest::ChangeFile(first, Change::Flush)),
+        FDATASYNC => Some(FileRequest::ChangeFile(first, Change::FlushBytes)),
+        FCHMOD => Some(FileRequest::ChangeFile(first, Change::Mode(second & 0o7777))),
+        FCNTL64 => Some(FileRequest::Control(first, second)),
+        STATX => Some(FileRequest::Refused(NO_SUCH_CALL)),
+        _ => None,
+    }
+}
+
+/// How a file is opened by these flags and this mode.
+pub fn how_of(flags: u32, mode: u32) -> How
+    ensures { result ≡ how_of flags mode }
+{
+    How {
+        reads: flags & 1 == 0,
+        writes: flags & 3 != 0,
+        appends: flags & 0x400 != 0,
+        creates: flags & 0x40 != 0,
+        is_new: flags & 0x80 != 0,
+        truncates: flags & 0x200 != 0,
+        mode: mode & 0o777,
+    }
+}

@@ -1,0 +1,92 @@
+//! An executable that runs as a process of Linux with files.
+
+ghost use Rattle.std.specs.Prelude.{◌≡◌, None, Err, map, string_bytes, IfOk, IfErr, IfSome, OnErr};
+ghost use Rattle.rrs_elf.specs.Executables.{IsExecutable};
+ghost use Rattle.rrs_elf.specs.declared.errors.ElfError.{ElfError};
+ghost use Rattle.rrs_elf.specs.Refusals.{first_refusal, checks};
+ghost use Rattle.rrs_exec.specs.Images.{AreLong, memory_refusal};
+ghost use Rattle.rrs_exec.specs.ProcessMemories.{process_bytes, process_writable};
+ghost use Rattle.rrs_files.specs.Runs.{RunsImageWithFiles, RunsWithFiles};
+
+use crate::folder::Folder;
+use crate::serving::WithFiles;
+use rrs_exec::{
+    DECODED_WORDS, Image, ImageError, InPieces, LoadedProcess, ProcessEnd, ProcessMemory, Progress,
+    ProtectedMemory, load_process, started,
+};
+use rrs_fast::{CachedMemory, OwnCache, ServedEnd, run_served};
+use rrs_lib::instruction_executor::InstructionExecutor;
+use rrs_linux::{Heap, Linux};
+use std::alloc::Global;
+use std::io::{Read, Write};
+
+/// Runs a file's bytes as `execute_process` of `rrs_exec` does, in an environment with files.
+///
+/// # Errors
+///
+/// Those of `execute_process`. No step is made then, and the environment is as it was, its files
+/// too.
+pub fn execute_with_files<R: Read, W: Write, E: Write, F: Folder, P: Progress>(
+    alloc: Global,
+    file: &[u8],
+    arguments: &[String],
+    wanted: u64,
+    limit: u64,
+    environment: &mut WithFiles<'_, Linux<R, W, E>, F>,
+    progress: &mut P,
+) -> Result<ProcessEnd, ImageError>
+    ensures executed { IfOk result (λ end. RunsWithFiles R.remaining W.contents E.contents F.did
+        file.now (map string_bytes arguments.now) wanted limit
+        environment.old environment.new end.steps end.pc end.ending) }
+    ensures ceiling { IsExecutable file.now
+        → IfSome (memory_refusal file.now wanted) (λ error. result ≡ Err error) }
+    ensures kept { OnErr result (environment.new ≡ environment.old) }
+    ensures refused { (refusal : ElfError) → first_refusal (checks file.now) ≡ Err refusal
+        → IfErr result (λ error. error ≡ ImageError.Elf refusal) }
+    ensures long { IsExecutable file.now → memory_refusal file.now wanted ≡ None
+        → AreLong file.now (map string_bytes arguments.now) wanted
+        → result ≡ Err ImageError.LongArguments }
+    ensures otherwise { IsExecutable file.now → memory_refusal file.now wanted ≡ None
+        → (AreLong file.now (map string_bytes arguments.now) wanted → ⊥)
+        → IfErr result (λ error. error ≡ ImageError.OutOfMemory) }
+{
+    let LoadedProcess { image, memory } = load_process(alloc, file, arguments, wanted)?;
+    Ok(run_image(image, memory, limit, environment, progress))
+}
+
+/// Runs a process whose memory is filled.
+fn run_image<R: Read, W: Write, E: Write, F: Folder, P: Progress>(
+    image: Image,
+    memory: ProcessMemory,
+    limit: u64,
+    environment: &mut WithFiles<'_, Linux<R, W, E>, F>,
+    progress: &mut P,
+) -> ProcessEnd
+    ensures { RunsImageWithFiles R.remaining W.contents E.contents F.did image
+        (process_bytes memory) (process_writable memory) limit
+        environment.old environment.new result.steps result.pc result.ending }
+{
+    let Image {
+        layout,
+        entry,
+        stack_pointer,
+        stack: _,
+        marks,
+    } = image;
+    environment.process.heap = Heap::new(layout.heap_start, layout.heap_end);
+    let mut hart = started(entry, stack_pointer);
+    let protected = ProtectedMemory { memory, marks };
+    let mut cached: CachedMemory<_, DECODED_WORDS> = CachedMemory::new(protected);
+    let mut executor = InstructionExecutor {
+        mem: &mut cached,
+        hart_state: &mut hart,
+    };
+    let mut runner = InPieces {
+        runner: OwnCache,
+        progress: &mut *progress,
+    };
+    let ServedEnd { steps, ending } = run_served(&mut runner, &mut executor, environment, limit);
+    progress.end();
+    let pc = executor.hart_state.pc;
+    ProcessEnd { ending, steps, pc }
+}

@@ -1,0 +1,429 @@
+//! An environment that serves the calls for files.
+
+ghost use Rattle.std.specs.Prelude.{◌≡◌, ◌<◌, ℕ, Bool, Option, None, IfOk, IfErr, Ok, Err, take, slice_index, true, false};
+ghost use Rattle.rrs_lib.specs.Machine.{state_of};
+ghost use Rattle.rrs_linux.specs.SystemCalls.{answered};
+ghost use Rattle.rrs_fast.specs.Serving.{MakesSome};
+ghost use Rattle.rrs_files.specs.Acts.{ChangesName, Opens, Renames, Tests};
+ghost use Rattle.rrs_files.specs.Calls.{ByPath, ByPaths, DoesFile, ReadsFile, SeeksFile, ServesFiles, TakesPath, TellsFile, TellsFolder, TellsNamed, WritesFile, folder_answer, is_of_descriptor, naming};
+
+use crate::errors::{BAD_ADDRESS, BAD_ARGUMENT, BAD_DESCRIPTOR, IS_LINK, NO_FILE, NO_ROOM};
+use crate::files::Files;
+use crate::folder::{Folder, NameChange, Status};
+use crate::paths::{IS_SYMBOLIC, Named, PATH_BYTES, kind_of, read_path, refusal_of, walk};
+use crate::requests::{FileRequest, file_request_of};
+use crate::statuses::status_bytes;
+use rrs_fast::Environment;
+use rrs_lib::instruction_executor::InstructionExecutor;
+use rrs_lib::{HartState, Memory};
+use rrs_linux::{copy_chunk, give_bytes, most_of, put_bytes};
+
+/// The most bytes that one call reads or writes of a file.
+const CHUNK: usize = 65_536;
+
+/// The flag of a path whose last part may be a link, `AT_SYMLINK_NOFOLLOW`.
+const NO_FOLLOW: u32 = 0x100;
+
+/// The flag of a path that may be empty, `AT_EMPTY_PATH`.
+const MAY_BE_EMPTY: u32 = 0x1000;
+
+impl<F: Folder> Files<F> {
+    /// Does what a call asks for, and gives its answer.
+    fn perform<M: Memory>(&mut self, memory: &mut M, request: FileRequest) -> u32
+        ensures does { MakesSome M.reads M.writes
+            (DoesFile F.did (M.writable memory.old) (M.bytes memory.old) (M.bytes memory.new)
+            request self.old self.new result)
+            memory.old memory.new }
+        ensures writable_kept { M.writable memory.new ≡ M.writable memory.old }
+        ensures layout_kept { M.layout memory.new ≡ M.layout memory.old }
+    {
+        match request {
+            FileRequest::Open(beside, path, flags, mode) => {
+                self.open_at(memory, beside, path, flags, mode)
+            }
+            FileRequest::Close(descriptor) => self.close(descriptor),
+            FileRequest::Seek(descriptor, offset, from, address) => {
+                self.seek_to(memory, descriptor, offset, from, address)
+            }
+            FileRequest::Read(descriptor, address, count) => {
+                self.read_to(memory, descriptor, None, address, count)
+            }
+            FileRequest::ReadAt(descriptor, offset, address, count) => {
+                self.read_to(memory, descriptor, Some(offset), address, count)
+            }
+            FileRequest::Write(descriptor, address, count) => {
+                self.write_from(memory, descriptor, None, address, count)
+            }
+            FileRequest::WriteAt(descriptor, offset, address, count) => {
+                self.write_from(memory, descriptor, Some(offset), address, count)
+            }
+            FileRequest::Status(descriptor, address) => {
+                self.put_status(memory, descriptor, address)
+            }
+            FileRequest::NamedStatus(beside, path, flags, address) => {
+                self.put_named(memory, beside, path, flags, address)
+            }
+            FileRequest::ChangeFile(descriptor, change) => self.change(descriptor, change),
+            FileRequest::ChangeName(beside, path, change) => {
+                self.change_name_at(memory, beside, path, change)
+            }
+            FileRequest::Rename(beside, path, new_beside, new_path) => {
+                self.rename_at(memory, beside, path, new_beside, new_path)
+            }
+            FileRequest::Test(beside, path, asked) => self.test_at(memory, beside, path, asked),
+            FileRequest::Control(descriptor, command) => self.control(descriptor, command),
+            FileRequest::Folder(address, size) => put_folder(memory, address, size),
+            FileRequest::Refused(answer) => answer,
+        }
+    }
+
+    /// Reads the path at an address into this room: how many bytes it has, or why it is refused.
+    fn path_at<M: Memory>(
+        &self,
+        memory: &mut M,
+        beside: u32,
+        address: u32,
+        text: &mut [u8; PATH_BYTES],
+    ) -> Result<usize, u32>
+        ensures taken { IfOk result (λ size. MakesSome M.reads M.writes
+            (TakesPath (M.bytes memory.old) self.now.descriptors.are_open beside address
+            (Ok (take size text.new))) memory.old memory.new) }
+        ensures within { IfOk result (λ size. size < 4096) }
+        ensures refused { IfErr result (λ error. MakesSome M.reads M.writes
+            (TakesPath (M.bytes memory.old) self.now.descriptors.are_open beside address
+            (Err error)) memory.old memory.new) }
+        ensures bytes_kept { M.bytes memory.new ≡ M.bytes memory.old }
+        ensures writable_kept { M.writable memory.new ≡ M.writable memory.old }
+        ensures layout_kept { M.layout memory.new ≡ M.layout memory.old }
+    {
+        let size = match read_path(memory, address, text) {
+            Ok(size) => size,
+            Err(error) => return Err(error),
+        };
+        match refusal_of(&text[..size], beside, &self.descriptors) {
+            Some(error) => Err(error),
+            None => Ok(size),
+        }
+    }
+
+    /// Opens the file that the path at an address names, and gives the answer of the call.
+    fn open_at<M: Memory>(
+        &mut self,
+        memory: &mut M,
+        beside: u32,
+        path: u32,
+        flags: u32,
+        mode: u32,
+    ) -> u32
+        ensures does { MakesSome M.reads M.writes
+            (ByPath F.did (M.writable memory.old) (M.bytes memory.old) (M.bytes memory.new)
+            (λ text. Opens F.did text flags mode) beside path self.old self.new result)
+            memory.old memory.new }
+        ensures writable_kept { M.writable memory.new ≡ M.writable memory.old }
+        ensures layout_kept { M.layout memory.new ≡ M.layout memory.old }
+    {
+        let mut text = [0; PATH_BYTES];
+        match self.path_at(memory, beside, path, &mut text) {
+            Err(error) => error,
+            Ok(size) => self.open(&text[..size], flags, mode),
+        }
+    }
+
+    /// Changes the name that the path at an address is, and gives the answer of the call.
+    fn change_name_at<M: Memory>(
+        &mut self,
+        memory: &mut M,
+        beside: u32,
+        path: u32,
+        change: NameChange,
+    ) -> u32
+        ensures does { MakesSome M.reads M.writes
+            (ByPath F.did (M.writable memory.old) (M.bytes memory.old) (M.bytes memory.new)
+            (λ text. ChangesName F.did text change) beside path self.old self.new result)
+            memory.old memory.new }
+        ensures writable_kept { M.writable memory.new ≡ M.writable memory.old }
+        ensures layout_kept { M.layout memory.new ≡ M.layout memory.old }
+    {
+        let mut text = [0; PATH_BYTES];
+        match self.path_at(memory, beside, path, &mut text) {
+            Err(error) => error,
+            Ok(size) => self.change_name(&text[..size], change),
+        }
+    }
+
+    /// Gives the file that the path at an address names the name that another path is, and gives
+    /// the answer of the call.
+    fn rename_at<M: Memory>(
+        &mut self,
+        memory: &mut M,
+        beside: u32,
+        path: u32,
+        new_beside: u32,
+        new_path: u32,
+    ) -> u32
+        ensures does { MakesSome M.reads M.writes
+            (ByPaths F.did (M.writable memory.old) (M.bytes memory.old) (M.bytes memory.new)
+            (Renames F.did) beside path new_beside new_path self.old self.new result)
+            memory.old memory.new }
+        ensures writable_kept { M.writable memory.new ≡ M.writable memory.old }
+        ensures layout_kept { M.layout memory.new ≡ M.layout memory.old }
+    {
+        let mut text = [0; PATH_BYTES];
+        let mut new_text = [0; PATH_BYTES];
+        let size = match self.path_at(memory, beside, path, &mut text) {
+            Err(error) => return error,
+            Ok(size) => size,
+        };
+        match self.path_at(memory, new_beside, new_path, &mut new_text) {
+            Err(error) => error,
+            Ok(new_size) => self.rename(&text[..size], &new_text[..new_size]),
+        }
+    }
+
+    /// Whether what the path at an address names may be reached so: the answer of the call.
+    fn test_at<M: Memory>(&mut self, memory: &mut M, beside: u32, path: u32, asked: u32) -> u32
+        ensures does { MakesSome M.reads M.writes
+            (ByPath F.did (M.writable memory.old) (M.bytes memory.old) (M.bytes memory.new)
+            (λ text. Tests F.did text asked) beside path self.old self.new result)
+            memory.old memory.new }
+        ensures writable_kept { M.writable memory.new ≡ M.writable memory.old }
+        ensures layout_kept { M.layout memory.new ≡ M.layout memory.old }
+    {
+        let mut text = [0; PATH_BYTES];
+        match self.path_at(memory, beside, path, &mut text) {
+            Err(error) => error,
+            Ok(size) => self.test(&text[..size], asked),
+        }
+    }
+
+    /// Reads from a descriptor into memory, and gives the answer of the call.
+    fn read_to<M: Memory>(
+        &mut self,
+        memory: &mut M,
+        descriptor: u32,
+        from: Option<u64>,
+        address: u32,
+        count: u32,
+    ) -> u32
+        ensures does { MakesSome M.reads M.writes
+            (ReadsFile F.did (M.writable memory.old) (M.bytes memory.old) (M.bytes memory.new)
+            descriptor from address count self.old self.new result)
+            memory.old memory.new }
+        ensures writable_kept { M.writable memory.new ≡ M.writable memory.old }
+        ensures layout_kept { M.layout memory.new ≡ M.layout memory.old }
+    {
+        let Some(place) = self.descriptors.place_of(descriptor) else {
+            return BAD_DESCRIPTOR;
+        };
+        let Some(most) = most_of(address, count) else {
+            return BAD_ADDRESS;
+        };
+        let most = most.min(CHUNK as u32);
+        let mut chunk = [0; CHUNK];
+        match self.folder.read(place, from, most as usize, &mut chunk) {
+            Err(error) => error,
+            Ok(size) => give_bytes(&chunk[..size], memory, address, most).1,
+        }
+    }
+
+    /// Writes to a descriptor from memory, and gives the answer of the call.
+    fn write_from<M: Memory>(
+        &mut self,
+        memory: &mut M,
+        descriptor: u32,
+        from: Option<u64>,
+        address: u32,
+        count: u32,
+    ) -> u32
+        ensures does { MakesSome M.reads M.writes
+            (WritesFile F.did (M.writable memory.old) (M.bytes memory.old) (M.bytes memory.new)
+            descriptor from address count self.old self.new result)
+            memory.old memory.new }
+        ensures writable_kept { M.writable memory.new ≡ M.writable memory.old }
+        ensures layout_kept { M.layout memory.new ≡ M.layout memory.old }
+    {
+        let Some(place) = self.descriptors.place_of(descriptor) else {
+            return BAD_DESCRIPTOR;
+        };
+        let Some(most) = most_of(address, count) else {
+            return BAD_ADDRESS;
+        };
+        let most = most.min(CHUNK as u32);
+        let mut chunk = [0; CHUNK];
+        let size = copy_chunk(memory, address, most, &mut chunk);
+        if is_unmapped(size, most) {
+            return BAD_ADDRESS;
+        }
+        match self.folder.write(place, from, &chunk[..size as usize]) {
+            Err(error) => error,
+            Ok(written) => written as u32,
+        }
+    }
+
+    /// Moves the position of a descriptor, puts it into memory, and gives the answer of the call.
+    fn seek_to<M: Memory>(
+        &mut self,
+        memory: &mut M,
+        descriptor: u32,
+        offset: u64,
+        from: u32,
+        address: u32,
+    ) -> u32
+        ensures does { MakesSome M.reads M.writes
+            (SeeksFile F.did (M.writable memory.old) (M.bytes memory.old) (M.bytes memory.new)
+            descriptor offset from address self.old self.new result)
+            memory.old memory.new }
+        ensures writable_kept { M.writable memory.new ≡ M.writable memory.old }
+        ensures layout_kept { M.layout memory.new ≡ M.layout memory.old }
+    {
+        let Some(place) = self.descriptors.place_of(descriptor) else {
+            return BAD_DESCRIPTOR;
+        };
+        if from > 2 {
+            return BAD_ARGUMENT;
+        }
+        match self.folder.seek(place, from, offset) {
+            Err(error) => error,
+            Ok(position) => put_bytes(&position.to_le_bytes(), memory, address),
+        }
+    }
+
+    /// Puts the status of a descriptor into memory, and gives the answer of the call.
+    fn put_status<M: Memory>(&mut self, memory: &mut M, descriptor: u32, address: u32) -> u32
+        ensures does { MakesSome M.reads M.writes
+            (TellsFile F.did (M.writable memory.old) (M.bytes memory.old) (M.bytes memory.new)
+            descriptor address self.old self.new result)
+            memory.old memory.new }
+        ensures writable_kept { M.writable memory.new ≡ M.writable memory.old }
+        ensures layout_kept { M.layout memory.new ≡ M.layout memory.old }
+    {
+        let Some(place) = self.descriptors.place_of(descriptor) else {
+            return BAD_DESCRIPTOR;
+        };
+        match self.folder.status(place) {
+            Err(error) => error,
+            Ok(status) => put_bytes(&status_bytes(&status), memory, address),
+        }
+    }
+
+    /// Puts the status of what a path names into memory, and gives the answer of the call.
+    fn put_named<M: Memory>(
+        &mut self,
+        memory: &mut M,
+        beside: u32,
+        path: u32,
+        flags: u32,
+        address: u32,
+    ) -> u32
+        ensures does { MakesSome M.reads M.writes
+            (TellsNamed F.did (M.writable memory.old) (M.bytes memory.old) (M.bytes memory.new)
+            beside path flags address self.old self.new result)
+            memory.old memory.new }
+        ensures writable_kept { M.writable memory.new ≡ M.writable memory.old }
+        ensures layout_kept { M.layout memory.new ≡ M.layout memory.old }
+    {
+        let mut text = [0; PATH_BYTES];
+        match self.path_at(memory, beside, path, &mut text) {
+            Err(error) => {
+                if is_of_descriptor(error, flags) {
+                    self.put_status(memory, beside, address)
+                } else {
+                    error
+                }
+            }
+            Ok(size) => match naming(walk(&mut self.folder, &text[..size]), flags) {
+                Err(error) => error,
+                Ok(status) => put_bytes(&status_bytes(&status), memory, address),
+            },
+        }
+    }
+}
+
+/// Puts the path of the working directory into memory, and gives the answer of the call.
+fn put_folder<M: Memory>(memory: &mut M, address: u32, size: u32) -> u32
+    ensures does { MakesSome M.reads M.writes
+        (TellsFolder (M.writable memory.old) (M.bytes memory.old) (M.bytes memory.new)
+        address size result)
+        memory.old memory.new }
+    ensures writable_kept { M.writable memory.new ≡ M.writable memory.old }
+    ensures layout_kept { M.layout memory.new ≡ M.layout memory.old }
+{
+    if size < 2 {
+        return NO_ROOM;
+    }
+    folder_answer(put_bytes(&[b'/', 0], memory, address))
+}
+
+/// The answer of `getcwd` where the bytes of the path were put with this answer: how many they are,
+/// or the error.
+fn folder_answer(put: u32) -> u32
+    ensures { result ≡ folder_answer put }
+{
+    if put == 0 { 2 } else { put }
+}
+
+/// Whether a buffer of which bytes are wanted has none, where so many were copied.
+fn is_unmapped(copied: u32, wanted: u32) -> bool
+    ensures yes { result ≡ true → (copied ≡ 0) × (0 < wanted) }
+    ensures no { result ≡ false → copied ≡ 0 → wanted ≡ 0 }
+{
+    copied == 0 && wanted != 0
+}
+
+/// Whether a status is that of a descriptor, where the path has this error.
+fn is_of_descriptor(error: u32, flags: u32) -> bool
+    ensures { result ≡ is_of_descriptor error flags }
+{
+    error == NO_FILE && flags & MAY_BE_EMPTY != 0
+}
+
+/// The status of what a path names, or the error.
+fn naming(named: Named, flags: u32) -> Result<Status, u32>
+    ensures { result ≡ naming named flags }
+{
+    match named {
+        Named::Stopped(error) => Err(error),
+        Named::Missing => Err(NO_FILE),
+        Named::There(status) => {
+            if kind_of(&status) == IS_SYMBOLIC && flags & NO_FOLLOW == 0 {
+                Err(IS_LINK)
+            } else {
+                Ok(status)
+            }
+        }
+    }
+}
+
+/// An environment around another one, which serves the calls for files itself.
+#[derive(Drop)]
+pub struct WithFiles<'a, P, F> {
+    /// The environment that serves all other calls.
+    pub process: &'a mut P,
+    /// The files.
+    pub files: Files<F>,
+}
+
+impl<'a, P: Environment, F: Folder> Environment for WithFiles<'a, P, F> {
+    ghost serves = { ServesFiles P.serves F.did };
+
+    fn serve<M: Memory>(&mut self, executor: &mut InstructionExecutor<M>) -> Option<u32> {
+        match file_request_of(executor.hart_state) {
+            None => self.process.serve(executor),
+            Some(request) => {
+                let answer = self.files.perform(executor.mem, request);
+                go_on(executor.hart_state, answer)
+            }
+        }
+    }
+}
+
+/// Puts the answer of a call into a0. The program goes on.
+fn go_on(hart: &mut HartState, answer: u32) -> Option<u32>
+    ensures goes_on { result ≡ None }
+    ensures answered { (bytes : ℕ → Option ℕ) (writable : ℕ → Bool)
+        → state_of hart.new bytes writable ≡ answered (state_of hart.old bytes writable) answer }
+    ensures zero_kept { slice_index hart.new.registers 0 ≡ slice_index hart.old.registers 0 }
+{
+    hart.write_register(10, answer);
+    None
+}
