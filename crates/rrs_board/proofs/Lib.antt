@@ -8,4 +8,4 @@ pub mod RamWords
 pub mod BoardLegs
 pub mod RamHalts
 pub mod PaddedWords
-pub mod Images
+pub mod ImageEnds

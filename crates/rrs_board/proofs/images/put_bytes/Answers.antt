@@ -1,4 +1,4 @@
-use Rattle.rrs_board.proofs.Images.{ends_past}
+use Rattle.rrs_board.proofs.ImageEnds.{ends_past}
 use Rattle.rrs_board.proofs.images.put_bytes.Goals as goal
 
 -- src/images.rt:61:1
