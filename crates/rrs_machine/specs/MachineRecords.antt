@@ -3,11 +3,13 @@
 -- first one of a handler, its mode, the cause of its trap, and the CSR that it read and wrote.
 use Rattle.std.specs.Prelude.{◌≡◌, ◌≢◌, ℕ, ◌+◌, ◌-◌, ◌^◌, ◌==◌, ◌&&◌, List, Bool, true, false, not, if◌then◌else◌, Option, Some, None}
 use Rattle.rrs_instruction.specs.declared.instruction_formats.IType.{IType}
+use Rattle.rrs_instruction.specs.declared.instruction_formats.RType.{RType}
 use Rattle.rrs_words.specs.declared.csrs.Profile.{Profile}
 use Rattle.rrs_words.specs.declared.csrs.Csr.{Csr}
 use Rattle.rrs_machine.specs.declared.csrs.Inputs.{Inputs}
 use Rattle.rrs_words.specs.declared.instructions.SystemRow.{SystemRow}
 use Rattle.rrs_words.specs.declared.instructions.SystemRow.TheVariants.{Csrrw, Csrrs, Csrrc, Mret, Wfi, FenceI}
+use Rattle.rrs_words.specs.declared.atomics.AtomicRow.{AtomicRow}
 use Rattle.rrs_machine.specs.declared.traps.Interrupt.{Interrupt}
 use Rattle.rrs_machine.specs.declared.machine.MachineAnswer.{MachineAnswer}
 use Rattle.rrs_machine.specs.declared.machine.MachineAnswer.TheVariants.{Retired, Raised, Interrupted}
@@ -23,7 +25,7 @@ use Rattle.rrs_words.specs.CsrNumbers.{both, csr_at, written_bits, legal}
 use Rattle.rrs_machine.specs.Csrs.{mode_number, mode_of, csr_value}
 use Rattle.rrs_words.specs.SystemInstructions.{IsSystem, csr_number, always_writes, writes_csr, updated}
 use Rattle.rrs_machine.specs.Traps.{exception_code, interrupt_code, interrupt_due}
-use Rattle.rrs_machine.specs.MachineSteps.{MachineState, operand_of, AccessesOfMachineStep}
+use Rattle.rrs_machine.specs.MachineSteps.{MachineState, operand_of, IsAtomicOf, AccessesOfMachineStep}
 
 -- ---- the word
 
@@ -44,15 +46,20 @@ system_source Csrrs f = f.rs1
 system_source Csrrc f = f.rs1
 system_source _ f = 0
 
--- the source registers of a word: 0 where there is no word, or it is no instruction
-pub record HasSourcesOf (word : Option ℕ) (rs1 rs2 : ℕ) : Type 0 where
+-- The source registers of a word on a hart: 0 where there is no word, or it is no instruction. A
+-- lr.w has 0 as the second one.
+pub record HasSourcesOf (p : Profile) (word : Option ℕ) (rs1 rs2 : ℕ) : Type 0 where
   pub of_row : (w : ℕ) (row : Row) (f : Fields) → word ≡ Some w → Decodes w row f
       → (rs1 ≡ first_source f) × (rs2 ≡ second_source f)
   pub of_system : (w : ℕ) (row : SystemRow) (f : IType)
       → word ≡ Some w → IsIllegal w → IsSystem w row f
       → (rs1 ≡ system_source row f) × (rs2 ≡ 0)
+  pub of_atomic : (w : ℕ) (row : AtomicRow) (f : RType)
+      → word ≡ Some w → IsIllegal w → IsAtomicOf p w row f
+      → (rs1 ≡ f.rs1) × (rs2 ≡ f.rs2)
   pub of_illegal : (w : ℕ) → word ≡ Some w → IsIllegal w
-      → ((row : SystemRow) (f : IType) → ¬ IsSystem w row f) → (rs1 ≡ 0) × (rs2 ≡ 0)
+      → ((row : SystemRow) (f : IType) → ¬ IsSystem w row f)
+      → ((row : AtomicRow) (f : RType) → ¬ IsAtomicOf p w row f) → (rs1 ≡ 0) × (rs2 ≡ 0)
   pub of_none : word ≡ None → (rs1 ≡ 0) × (rs2 ≡ 0)
 
 -- ---- the CSR
@@ -129,7 +136,8 @@ pub record MachineRetires (order : ℕ) (first : Bool) (i : Inputs) (s t : Machi
   pub trap_is : r.retired.trap ≡ is_raised answer
   pub pc_before : r.retired.pc_rdata ≡ s.hart.pc
   pub pc_after : r.retired.pc_wdata ≡ t.hart.pc
-  pub sources : HasSourcesOf (word_of_step i s) r.retired.rs1_addr r.retired.rs2_addr
+  pub sources : HasSourcesOf s.csrs.profile (word_of_step i s)
+      r.retired.rs1_addr r.retired.rs2_addr
   pub first_value : r.retired.rs1_rdata ≡ reg s.hart r.retired.rs1_addr
   pub second_value : r.retired.rs2_rdata ≡ reg s.hart r.retired.rs2_addr
   pub written : t.hart.last ≡ last_of r.retired.rd_addr

@@ -1,15 +1,16 @@
 -- One step of a hart that has machine mode, alone or with user mode (RISC-V privileged
 -- specification 1.12, "Machine-Level ISA"; unprivileged specification, "Zicsr": an instruction on a
--- CSR reads the old value and then writes). An instruction of the 48 rows does what the kit's own
+-- CSR reads the old value and then writes), with or without extension A (rrs_atomics). An instruction of the 48 rows does what the kit's own
 -- step does, in both modes. Two things are decided here: a jump or a taken branch to a misaligned
 -- address raises its exception at the jump, with no register written, as the specification has it;
 -- and a wfi retires at once, with an answer that tells whether the hart waits, so that an interrupt
 -- that comes meanwhile is taken after it.
-use Rattle.std.specs.Prelude.{◌≡◌, ◌≢◌, ℕ, ◌+◌, ◌%◌, ◌^◌, ◌==◌, ◌&&◌, List, [], Bool, pos, true, false, not, if◌then◌else◌, Option, Some, None, Ok, Err}
+use Rattle.std.specs.Prelude.{◌≡◌, ◌≢◌, ℕ, ◌+◌, ◌%◌, ◌^◌, ◌==◌, ◌&&◌, List, [], ◌∷◌, Bool, pos, true, false, not, if◌then◌else◌, Option, Some, None, Ok, Err}
 use Rattle.rrs_lib.specs.declared.HartState.{HartState}
 use Rattle.rrs_lib.specs.declared.instruction_executor.InstructionException.{InstructionException}
 use Rattle.rrs_lib.specs.declared.instruction_executor.InstructionExecutor.{InstructionExecutor}
 use Rattle.rrs_instruction.specs.declared.instruction_formats.IType.{IType}
+use Rattle.rrs_instruction.specs.declared.instruction_formats.RType.{RType}
 use Rattle.rrs_machine.specs.declared.csrs.CsrFile.{CsrFile}
 use Rattle.rrs_machine.specs.declared.csrs.Mode.{Mode}
 use Rattle.rrs_machine.specs.declared.csrs.Mode.TheVariants.{User, Machine}
@@ -18,6 +19,9 @@ use Rattle.rrs_words.specs.declared.csrs.Csr.TheVariants.{Mepc}
 use Rattle.rrs_machine.specs.declared.csrs.Inputs.{Inputs}
 use Rattle.rrs_words.specs.declared.instructions.SystemRow.{SystemRow}
 use Rattle.rrs_words.specs.declared.instructions.SystemRow.TheVariants.{Mret, Wfi, FenceI}
+use Rattle.rrs_words.specs.declared.atomics.AtomicRow.{AtomicRow}
+use Rattle.rrs_words.specs.declared.csrs.Profile.{Profile}
+use Rattle.rrs_words.specs.declared.atomics.AtomicRow.TheVariants.{LrW}
 use Rattle.rrs_machine.specs.declared.traps.Exception.{Exception}
 use Rattle.rrs_machine.specs.declared.traps.Exception.TheVariants.{InstructionMisaligned, IllegalInstruction}
 use Rattle.rrs_machine.specs.declared.traps.Interrupt.{Interrupt}
@@ -27,13 +31,15 @@ use Rattle.rrs_instruction.specs.Table.{IsIllegal}
 use Rattle.rrs_instruction.specs.Words.{bit}
 use Rattle.rrs_lib.specs.Bytes.{ByteMap}
 use Rattle.rrs_lib.specs.Machine.{State, state_of, reg, put, with_pc}
-use Rattle.rrs_lib.specs.Steps.{Step, next_word, cleared, advanced}
+use Rattle.rrs_lib.specs.Steps.{Step, StepAnswer, next_word, cleared, advanced}
 use Rattle.rrs_lib.specs.Executor.{state_in}
-use Rattle.rrs_lib.specs.Accesses.{Access, AccessesOf}
+use Rattle.rrs_lib.specs.Accesses.{Access, AccessesOf, fetch}
+use Rattle.rrs_words.specs.AtomicInstructions.{IsAtomic}
+use Rattle.rrs_atomics.specs.Atomics.{AtomicOutcome, atomic_outcome, accesses_of_atomic}
 use Rattle.rrs_words.specs.CsrNumbers.{is_read_only}
 use Rattle.rrs_machine.specs.Csrs.{mode_of, found_csr, csr_value, csr_written, cycle_counted, retired_file, counted_beside}
 use Rattle.rrs_words.specs.SystemInstructions.{IsSystem, csr_number, writes_csr, has_immediate, updated}
-use Rattle.rrs_machine.specs.Traps.{exception_code, exception_value, interrupt_code, ready_interrupt, interrupt_due, trap_file, return_file, base_of, vector_of, exception_of}
+use Rattle.rrs_machine.specs.Traps.{exception_code, exception_value, interrupt_code, ready_interrupt, interrupt_due, trap_file, return_file, base_of, vector_of, exception_of, exception_of_word}
 
 -- ---- the state
 
@@ -146,6 +152,43 @@ system_outcome row f w i s =
     then permitted_outcome row f w i s
     else raises (IllegalInstruction w) s
 
+-- ---- the instructions of extension A
+
+-- the word w is one of these, where the hart has extension A
+abbrev pub IsAtomicOf : Profile → ℕ → AtomicRow → RType → Type 0
+IsAtomicOf p w row f = (p.atomics ≡ true) × IsAtomic w row f
+
+-- such a word is at the program counter
+pub record AtomicAt (s : MachineState) (w : ℕ) (row : AtomicRow) (f : RType) : Type 0 where
+  pub fetched : next_word s.hart ≡ Some w
+  pub outside : IsIllegal w
+  pub is : IsAtomicOf s.csrs.profile w row f
+
+-- none is
+abbrev pub IsNoAtomic : MachineState → Type 0
+IsNoAtomic s = (w : ℕ) (row : AtomicRow) (f : RType) → ¬ AtomicAt s w row f
+
+abbrev pub reserving : Option ℕ → CsrFile → CsrFile
+reserving r file = record file { reservation = r }
+
+-- lr.w has the exceptions of a load, and the others have those of a store: the opcode of these
+abbrev pub opcode_like : AtomicRow → ℕ
+opcode_like LrW = 0x03
+opcode_like row = 0x23
+
+-- the outcome, by what is left of registers and memory, the CSRs, and how the instruction ended
+abbrev pub atomic_ended : AtomicRow → State → CsrFile → StepAnswer → MachineOutcome
+atomic_ended row u file (Ok v) = ends (machine (gone_on u) (retired_file file)) Retired
+atomic_ended row u file (Err e) =
+    raises (exception_of_word (mode_of file) (opcode_like row) e) (machine u file)
+
+abbrev pub atomic_ends : AtomicRow → AtomicOutcome → CsrFile → MachineOutcome
+atomic_ends row o file = atomic_ended row o.after (reserving o.reservation file) o.answer
+
+abbrev pub atomic_step : AtomicRow → RType → MachineState → MachineOutcome
+atomic_step row f s =
+    atomic_ends row (atomic_outcome row f (cleared s.hart) s.csrs.reservation) s.csrs
+
 -- ---- a step
 
 -- no word that the 48 rows leave out and that is in the table is at the program counter
@@ -154,7 +197,7 @@ IsNoSystem h =
     (w : ℕ) (row : SystemRow) (f : IType)
     → next_word h ≡ Some w → IsIllegal w → ¬ IsSystem w row f
 
--- An instruction, in one of four cases.
+-- An instruction, in one of five cases.
 pub data InstructionStep (i : Inputs) (s t : MachineState) (answer : MachineAnswer) : Type 0 where
   -- one of the 48 rows retires
   Retires : (u : State)
@@ -168,7 +211,7 @@ pub data InstructionStep (i : Inputs) (s t : MachineState) (answer : MachineAnsw
       → InstructionStep i s t answer
   -- the step of the kit ends with an exception, which is raised
   Faults : (u : State) (e : InstructionException)
-      → Step s.hart u (Err e) → IsNoSystem s.hart
+      → Step s.hart u (Err e) → IsNoSystem s.hart → IsNoAtomic s
       → t ≡ raised (exception_of (mode_of s.csrs) (next_word s.hart) e) s
       → answer ≡ Raised (exception_of (mode_of s.csrs) (next_word s.hart) e)
       → InstructionStep i s t answer
@@ -176,6 +219,11 @@ pub data InstructionStep (i : Inputs) (s t : MachineState) (answer : MachineAnsw
   Executes : (w : ℕ) (row : SystemRow) (f : IType)
       → next_word s.hart ≡ Some w → IsIllegal w → IsSystem w row f
       → ends t answer ≡ system_outcome row f w i s
+      → InstructionStep i s t answer
+  -- one of extension A
+  Swaps : (w : ℕ) (row : AtomicRow) (f : RType)
+      → AtomicAt s w row f
+      → ends t answer ≡ atomic_step row f s
       → InstructionStep i s t answer
 
 -- One step takes s to t with this answer: an interrupt is taken, or else an instruction.
@@ -195,12 +243,22 @@ IsOnlyMachineStep i s t answer =
     (t' : MachineState) (answer' : MachineAnswer)
     → MachineStep i s t' answer' → (t' ≡ t) × (answer' ≡ answer)
 
--- the accesses of a step: those of the kit's step, and none where an interrupt is taken
+-- the accesses of an instruction: those of the kit's step, or the fetch and those of extension A
+pub data AccessesOfInstruction (s : MachineState) (accesses : List Access) : Type 0 where
+  OfKit :
+      IsNoAtomic s → AccessesOf s.hart accesses
+      → AccessesOfInstruction s accesses
+  OfAtomic : (w : ℕ) (row : AtomicRow) (f : RType)
+      → AtomicAt s w row f
+      → accesses ≡ fetch s.hart ∷ accesses_of_atomic row f (cleared s.hart) s.csrs.reservation
+      → AccessesOfInstruction s accesses
+
+-- the accesses of a step: those of its instruction, and none where an interrupt is taken
 pub data AccessesOfMachineStep (i : Inputs) (s : MachineState) (accesses : List Access)
     : Type 0 where
   OfInterrupt : (x : Interrupt)
       → interrupt_due s.csrs i ≡ Some x → accesses ≡ []
       → AccessesOfMachineStep i s accesses
   OfInstruction :
-      interrupt_due s.csrs i ≡ None → AccessesOf s.hart accesses
+      interrupt_due s.csrs i ≡ None → AccessesOfInstruction s accesses
       → AccessesOfMachineStep i s accesses

@@ -1,28 +1,37 @@
-//! A step of a hart that has machine mode, alone or with user mode.
+//! A step of a hart that has machine mode, and by its profile user mode and extension A.
 
-ghost use Rattle.std.specs.Prelude.{◌≡◌, ℕ, ◌%◌, ◌<◌, ◌^◌, Bool, Some, None, Option, Ok, slice_index};
-ghost use Rattle.rrs_instruction.specs.Encodings.{HasRegisters, I, IsInRange};
+ghost use Rattle.std.specs.Prelude.{◌≡◌, ℕ, ◌%◌, ◌<◌, ◌^◌, ◌∷◌, List, Bool, Some, None, Option, IfSome, IfNone, Ok, slice_index};
+ghost use Rattle.rrs_instruction.specs.Encodings.{HasRegisters, I, R, IsInRange};
 ghost use Rattle.rrs_instruction.specs.Table.{IsIllegal};
 ghost use Rattle.rrs_lib.specs.Bytes.{ByteMap, little_endian};
 ghost use Rattle.rrs_lib.specs.Instructions.{row_of, fields_of, IsInstruction};
 ghost use Rattle.rrs_lib.specs.Machine.{state_of};
 ghost use Rattle.rrs_lib.specs.Steps.{Step, cleared};
 ghost use Rattle.rrs_lib.specs.Executor.{state_in, KeepsTheRest};
-ghost use Rattle.rrs_lib.specs.Accesses.{AccessesOf, accesses_of_row, Makes, MakesExactly};
+ghost use Rattle.rrs_lib.specs.Accesses.{Access, fetch, accesses_of_row, Makes, MakesExactly};
+ghost use Rattle.rrs_atomics.specs.Atomics.{accesses_of_atomic};
 ghost use Rattle.rrs_machine.specs.declared.csrs.Inputs.{Inputs as InputsOfStep};
 ghost use Rattle.rrs_machine.specs.Csrs.{mode_of, found_csr};
 ghost use Rattle.rrs_words.specs.SystemInstructions.{csr_number, IsSystem};
-ghost use Rattle.rrs_machine.specs.MachineSteps.{machine_of, machine_in, ends, operand_of, file_updated, accessed, trapped, raised, raises, interrupted, csr_outcome, returned, passed, wait_answer, is_permitted, permitted_outcome, system_outcome, InstructionStep, MachineStep, IsOnlyMachineStep, AccessesOfMachineStep, IsNoSystem};
+ghost use Rattle.rrs_machine.specs.MachineSteps.{machine_of, machine_in, ends, operand_of, file_updated, accessed, trapped, raised, raises, interrupted, csr_outcome, returned, passed, wait_answer, is_permitted, permitted_outcome, system_outcome, opcode_like, atomic_ended, atomic_step, InstructionStep, MachineStep, IsOnlyMachineStep, AccessesOfInstruction, AccessesOfMachineStep, IsNoSystem, IsNoAtomic, IsAtomicOf};
+ghost use Rattle.rrs_words.specs.declared.atomics.AtomicRow.{AtomicRow as TheAtomicRow};
+ghost use Rattle.rrs_instruction.specs.declared.instruction_formats.RType.{RType as RFields};
 ghost use Rattle.rrs_machine.specs.Laws.{KeepsUnlessRetired, WritesNeither, instructions_after, cycles_after};
 ghost use Rattle.rrs_instruction.specs.Words.{bit};
 
 use crate::csrs::{CsrFile, Inputs, Mode};
 use crate::traps::{Exception, Interrupt, exception_of_fetch, exception_of_word};
+use rrs_atomics::execute_atomic;
 use rrs_lib::instruction::{Instruction, decode};
-use rrs_lib::instruction_executor::{InstructionExecutor, execute_parts, fetch_word};
+use rrs_lib::instruction_executor::{
+    InstructionException, InstructionExecutor, execute_parts, fetch_word,
+};
 use rrs_lib::{HartState, Memory};
 use rrs_words::csrs::is_read_only;
-use rrs_words::{Csr, SystemInstruction, SystemRow, decode_system};
+use rrs_words::{
+    AtomicInstruction, AtomicRow, Csr, Profile, SystemInstruction, SystemRow, decode_atomic,
+    decode_system,
+};
 
 /// How a step of a hart with machine mode ended.
 #[derive(Debug, PartialEq, Clone, Copy)]
@@ -258,25 +267,108 @@ fn execute_system(
     }
 }
 
+/// The opcode of the accesses whose exceptions an instruction of extension A has.
+fn opcode_like(row: AtomicRow) -> u32
+    ensures { result ≡ opcode_like row }
+{
+    match row {
+        AtomicRow::LrW => 0x03,
+        _ => 0x23,
+    }
+}
+
+/// Goes on after an instruction of extension A, or raises its exception.
+fn end_atomic(
+    hart: &mut HartState,
+    csrs: &mut CsrFile,
+    row: AtomicRow,
+    answer: Result<(), InstructionException>,
+) -> MachineAnswer
+    ensures ended { (bytes : ByteMap) (writable : ℕ → Bool)
+        → ends (machine_of hart.new csrs.new bytes writable) result
+        ≡ atomic_ended row (state_of hart.old bytes writable) csrs.old answer }
+    ensures registers_kept { hart.new.registers ≡ hart.old.registers }
+{
+    match answer {
+        Ok(()) => {
+            hart.pc = hart.pc.wrapping_add(4);
+            csrs.count_retired();
+            MachineAnswer::Retired
+        }
+        Err(fault) => {
+            let exception = exception_of_word(csrs.mode(), opcode_like(row), fault);
+            raise(hart, csrs, exception)
+        }
+    }
+}
+
+/// Executes an instruction of extension A.
+fn swap<M: Memory>(
+    mem: &mut M,
+    hart: &mut HartState,
+    csrs: &mut CsrFile,
+    instruction: &AtomicInstruction,
+) -> MachineAnswer
+    requires { HasRegisters (R instruction.now.fields) }
+    ensures outcome { ends (machine_of hart.new csrs.new (M.bytes mem.new) (M.writable mem.new))
+        result ≡ atomic_step instruction.now.row instruction.now.fields
+        (machine_of hart.old csrs.old (M.bytes mem.old) (M.writable mem.old)) }
+    ensures makes { Makes M.reads M.writes
+        (accesses_of_atomic instruction.now.row instruction.now.fields
+        (cleared (state_of hart.old (M.bytes mem.old) (M.writable mem.old))) csrs.old.reservation)
+        mem.old mem.new }
+    ensures layout_kept { M.layout mem.new ≡ M.layout mem.old }
+    ensures entry_zero { slice_index hart.new.registers 0 ≡ slice_index hart.old.registers 0 }
+{
+    hart.last_register_write = None;
+    let (row, fields) = (instruction.row, &instruction.fields);
+    let answer = execute_atomic(mem, hart, &mut csrs.reservation, row, fields);
+    end_atomic(hart, csrs, row, answer)
+}
+
+/// The instruction of extension A that a word is, where the hart has it.
+pub(crate) fn atomic_of(profile: Profile, word: u32) -> Option<AtomicInstruction>
+    ensures decoded { IfSome result (λ i. IsAtomicOf profile word i.row i.fields) }
+    ensures outside { IfNone result ((row : TheAtomicRow) (f : RFields)
+        → ¬ IsAtomicOf profile word row f) }
+{
+    if profile.atomics {
+        decode_atomic(word)
+    } else {
+        None
+    }
+}
+
 /// Executes a word that is none of the 48 rows: an instruction that they leave out, or an illegal
-/// one.
-pub(crate) fn execute_outside(
+/// one. Its accesses come after the fetch.
+pub(crate) fn execute_outside<M: Memory>(
+    mem: &mut M,
     hart: &mut HartState,
     csrs: &mut CsrFile,
     inputs: &Inputs,
     word: u32,
 ) -> MachineAnswer
     requires { IsIllegal word }
-    ensures step { (bytes : ByteMap) (writable : ℕ → Bool) → hart.old.pc % 4 ≡ 0
-        → little_endian bytes hart.old.pc 4 ≡ Some word → InstructionStep inputs.now
-        (machine_of hart.old csrs.old bytes writable)
-        (machine_of hart.new csrs.new bytes writable) result }
+    ensures step { hart.old.pc % 4 ≡ 0
+        → little_endian (M.bytes mem.old) hart.old.pc 4 ≡ Some word → InstructionStep inputs.now
+        (machine_of hart.old csrs.old (M.bytes mem.old) (M.writable mem.old))
+        (machine_of hart.new csrs.new (M.bytes mem.new) (M.writable mem.new)) result }
+    ensures makes { hart.old.pc % 4 ≡ 0
+        → little_endian (M.bytes mem.old) hart.old.pc 4 ≡ Some word
+        → (accesses : List Access) × AccessesOfInstruction
+        (machine_of hart.old csrs.old (M.bytes mem.old) (M.writable mem.old))
+        (fetch (state_of hart.old (M.bytes mem.old) (M.writable mem.old)) ∷ accesses)
+        × Makes M.reads M.writes accesses mem.old mem.new }
+    ensures layout_kept { M.layout mem.new ≡ M.layout mem.old }
     ensures entry_zero { slice_index hart.new.registers 0 ≡ slice_index hart.old.registers 0 }
 {
-    match decode_system(word) {
-        Some(instruction) => execute_system(hart, csrs, inputs, &instruction, word),
-        None => raise(hart, csrs, Exception::IllegalInstruction(word)),
+    if let Some(instruction) = decode_system(word) {
+        return execute_system(hart, csrs, inputs, &instruction, word);
     }
+    if let Some(instruction) = atomic_of(csrs.profile, word) {
+        return swap(mem, hart, csrs, &instruction);
+    }
+    raise(hart, csrs, Exception::IllegalInstruction(word))
 }
 
 /// Executes an instruction of the 48 rows, whose word is at the pc.
@@ -332,8 +424,8 @@ fn step_instruction<M: Memory>(
     ensures step { InstructionStep inputs.now
         (machine_of hart.old csrs.old (M.bytes mem.old) (M.writable mem.old))
         (machine_of hart.new csrs.new (M.bytes mem.new) (M.writable mem.new)) result }
-    ensures accesses { MakesExactly M.reads M.writes
-        (AccessesOf (state_of hart.old (M.bytes mem.old) (M.writable mem.old))) mem.old mem.new }
+    ensures accesses { MakesExactly M.reads M.writes (AccessesOfInstruction
+        (machine_of hart.old csrs.old (M.bytes mem.old) (M.writable mem.old))) mem.old mem.new }
     ensures layout_kept { M.layout mem.new ≡ M.layout mem.old }
     ensures entry_zero { slice_index hart.new.registers 0 ≡ slice_index hart.old.registers 0 }
 {
@@ -346,7 +438,7 @@ fn step_instruction<M: Memory>(
     };
     match decode(word) {
         Some(instruction) => execute(mem, hart, csrs, &instruction, word),
-        None => execute_outside(hart, csrs, inputs, word),
+        None => execute_outside(mem, hart, csrs, inputs, word),
     }
 }
 
@@ -362,6 +454,11 @@ fn step_instruction<M: Memory>(
 /// machine mode, the counters that `mcounteren` hides, and `wfi` where TW is 1 are illegal
 /// instructions.
 ///
+/// Where the profile has extension A, its instructions do what `execute_atomic` of `rrs_atomics`
+/// does, with the reservation among the CSRs. An `lr.w` that is misaligned or refused raises the
+/// exception of a load, and the others raise that of a store. No trap and no `mret` takes the
+/// reservation away.
+///
 /// An exception is no error here: the hart takes the trap, and is at its handler. A jump or a taken
 /// branch to a misaligned address raises its exception at the jump, with no register written. A
 /// `wfi` that nothing wakes is `Waiting`: it has retired, the hart is after it, and the caller
@@ -370,10 +467,10 @@ fn step_instruction<M: Memory>(
 ///
 /// The clauses: what happened is a step (`step`), and no other one leads from there (`only`); what
 /// is no part of the state stays (`rest`); the memory goes from what it was to what it is by
-/// exactly the accesses of the step, which are those of the kit's step, or none where an interrupt
-/// is taken (`accesses`). Four more are laws that follow from these. Where no instruction retires,
-/// registers and bytes stay (`traps`). An instruction that retires, and is none of those that the
-/// 48 rows leave out, is a step of the kit (`kit`). While IR of `mcountinhibit` is 0 and the
+/// exactly the accesses of the step: those of the kit's step, for extension A the fetch and those of
+/// `execute_atomic`, or none where an interrupt is taken (`accesses`). Four more are laws that follow
+/// from these. Where no instruction retires, registers and bytes stay (`traps`). An instruction that
+/// retires, and is none of those that the 48 rows leave out, is a step of the kit (`kit`). While IR of `mcountinhibit` is 0 and the
 /// instruction does not write it, `minstret` counts the instructions that retire (`minstret`).
 /// Likewise, by CY, `mcycle` counts the steps (`mcycle`).
 #[inline(always)]
@@ -396,6 +493,7 @@ pub fn step_machine<M: Memory>(
         (state_in M.bytes M.writable executor.new) }
     ensures kit { result ≡ MachineAnswer.Retired
         → IsNoSystem (state_in M.bytes M.writable executor.old)
+        → IsNoAtomic (machine_in M.bytes M.writable executor.old csrs.old)
         → Step (state_in M.bytes M.writable executor.old)
         (state_in M.bytes M.writable executor.new) (Ok tt) }
     ensures minstret { bit csrs.old.mcountinhibit 2 ≡ 0

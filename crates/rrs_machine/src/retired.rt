@@ -14,11 +14,13 @@ ghost use Rattle.rrs_trace.specs.Traced.{traced_state};
 ghost use Rattle.rrs_words.specs.CsrNumbers.{csr_at};
 ghost use Rattle.rrs_machine.specs.Csrs.{csr_value};
 ghost use Rattle.rrs_words.specs.SystemInstructions.{IsSystem, csr_number};
-ghost use Rattle.rrs_machine.specs.MachineSteps.{MachineState, machine, machine_of, machine_in, MachineStep, IsOnlyMachineStep, AccessesOfMachineStep, operand_of};
+ghost use Rattle.rrs_machine.specs.MachineSteps.{MachineState, machine, machine_of, machine_in, MachineStep, IsOnlyMachineStep, AccessesOfMachineStep, operand_of, IsAtomicOf};
+ghost use Rattle.rrs_words.specs.declared.atomics.AtomicRow.{AtomicRow as TheAtomicRow};
+ghost use Rattle.rrs_instruction.specs.declared.instruction_formats.RType.{RType as RFields};
 ghost use Rattle.rrs_machine.specs.MachineRecords.{word_of_step, system_source, HasSourcesOf, reads_csr, is_on_csr, no_csr, csr_access, HasCsrAccess, is_instruction, is_raised, cause_of, MachineRetires};
 
 use crate::csrs::{CsrFile, Inputs};
-use crate::machine::{MachineAnswer, step_machine};
+use crate::machine::{MachineAnswer, atomic_of, step_machine};
 use rrs_instruction::arithmetic;
 use rrs_lib::instruction::decode;
 use rrs_lib::instruction_executor::InstructionExecutor;
@@ -87,27 +89,48 @@ fn system_source(instruction: &SystemInstruction) -> usize
     }
 }
 
-/// The source register of a word that is none of the 48 rows, or 0.
-fn source_outside(word: u32) -> usize
+/// The source registers of a word of extension A, or 0.
+fn atomic_sources(profile: Profile, word: u32) -> (usize, usize)
+    ensures of_atomic { (row : TheAtomicRow) (f : RFields) → IsAtomicOf profile word row f
+        → (result.0 ≡ f.rs1) × (result.1 ≡ f.rs2) }
+    ensures of_none { ((row : TheAtomicRow) (f : RFields) → ¬ IsAtomicOf profile word row f)
+        → (result.0 ≡ 0) × (result.1 ≡ 0) }
+    ensures low { (result.0 < 32) × (result.1 < 32) }
+{
+    match atomic_of(profile, word) {
+        Some(instruction) => (instruction.fields.rs1, instruction.fields.rs2),
+        None => (0, 0),
+    }
+}
+
+/// The source registers of a word that is none of the 48 rows, or 0.
+fn sources_outside(profile: Profile, word: u32) -> (usize, usize)
     ensures of_system { (row : TheRow) (f : IFields) → IsSystem word row f
-        → result ≡ system_source row f }
-    ensures of_none { ((row : TheRow) (f : IFields) → ¬ IsSystem word row f) → result ≡ 0 }
-    ensures low { result < 32 }
+        → (result.0 ≡ system_source row f) × (result.1 ≡ 0) }
+    ensures of_atomic { (row : TheAtomicRow) (f : RFields) → IsAtomicOf profile word row f
+        → (result.0 ≡ f.rs1) × (result.1 ≡ f.rs2) }
+    ensures of_none { ((row : TheRow) (f : IFields) → ¬ IsSystem word row f)
+        → ((row : TheAtomicRow) (f : RFields) → ¬ IsAtomicOf profile word row f)
+        → (result.0 ≡ 0) × (result.1 ≡ 0) }
+    ensures low { (result.0 < 32) × (result.1 < 32) }
 {
     match decode_system(word) {
-        Some(instruction) => system_source(&instruction),
-        None => 0,
+        Some(instruction) => (system_source(&instruction), 0),
+        None => atomic_sources(profile, word),
     }
 }
 
 /// The source registers of a word, 0 where there is none.
-fn sources_of(word: Option<u32>) -> (usize, usize)
+fn sources_of(profile: Profile, word: Option<u32>) -> (usize, usize)
     ensures of_row { (w : ℕ) (row : Row) (f : Fields) → word ≡ Some w → Decodes w row f
         → (result.0 ≡ first_source f) × (result.1 ≡ second_source f) }
     ensures of_system { (w : ℕ) (row : TheRow) (f : IFields) → word ≡ Some w → IsIllegal w
         → IsSystem w row f → (result.0 ≡ system_source row f) × (result.1 ≡ 0) }
+    ensures of_atomic { (w : ℕ) (row : TheAtomicRow) (f : RFields) → word ≡ Some w → IsIllegal w
+        → IsAtomicOf profile w row f → (result.0 ≡ f.rs1) × (result.1 ≡ f.rs2) }
     ensures of_illegal { (w : ℕ) → word ≡ Some w → IsIllegal w
         → ((row : TheRow) (f : IFields) → ¬ IsSystem w row f)
+        → ((row : TheAtomicRow) (f : RFields) → ¬ IsAtomicOf profile w row f)
         → (result.0 ≡ 0) × (result.1 ≡ 0) }
     ensures of_none { word ≡ None → (result.0 ≡ 0) × (result.1 ≡ 0) }
     ensures low { (result.0 < 32) × (result.1 < 32) }
@@ -117,7 +140,7 @@ fn sources_of(word: Option<u32>) -> (usize, usize)
     };
     match decode(word) {
         Some(instruction) => source_registers(&instruction),
-        None => (source_outside(word), 0),
+        None => sources_outside(profile, word),
     }
 }
 
@@ -380,7 +403,7 @@ pub fn step_machine_retired<M: Memory>(
     let pc = executor.hart_state.pc;
     let before = *csrs;
     let seen = see_step(executor.mem, executor.hart_state, csrs, inputs);
-    let (rs1_addr, rs2_addr) = sources_of(seen.insn);
+    let (rs1_addr, rs2_addr) = sources_of(before.profile, seen.insn);
     let rd_addr = last_register(executor.hart_state.last_register_write);
     let retired = Retired {
         order,

@@ -31,9 +31,18 @@ log_of (Write a size v false) = no_access
 log_of (Write a size v true) =
     record { addr = a; rmask = 0; wmask = mask size; rdata = 0; wdata = v % 256 ^ width size }
 
--- of the accesses of a step, which are the fetch and one more at most: the one that is no fetch
+-- An access that follows another: a write that was granted goes with the read before it, as that of
+-- an AMO does, and of others the last is kept.
+abbrev pub followed : MemoryAccess → Access → MemoryAccess
+followed before (Write a size v true) =
+    record (log_of (Write a size v true)) { rmask = before.rmask; rdata = before.rdata }
+followed before access = log_of access
+
+-- Of the accesses of a step those that are no fetch: one in a step of the kit, and a read and then a
+-- write in an AMO.
 abbrev pub after_fetch : List Access → MemoryAccess
 after_fetch (fetched ∷ access ∷ []) = log_of access
+after_fetch (fetched ∷ first ∷ second ∷ []) = followed (log_of first) second
 after_fetch _ = no_access
 
 -- ---- the registers

@@ -7,19 +7,19 @@ use Rattle.rrs_lib.specs.declared.HartState.{HartState}
 use Rattle.rrs_lib.specs.Bytes.{ByteMap}
 use Rattle.rrs_lib.specs.Machine.{State, state_of}
 use Rattle.rrs_trace.specs.declared.traced.TracedMemory.{TracedMemory}
-use Rattle.rrs_trace.specs.Retired.{log_of}
+use Rattle.rrs_trace.specs.Retired.{followed}
 
 -- what an access read, if it is a read
 abbrev pub read_by : Access → Option ℕ
 read_by (Read address size answer) = answer
 read_by (Write address size value answer) = None
 
--- the first access is the fetch, and of the others the latest is kept
+-- the first access is the fetch, and the others follow one another
 pub record Traces {M : Type 0} (access : Access) (old new : TracedMemory M) : Type 0 where
   pub same_memory : new.memory.ghost_name ≡ old.memory.ghost_name
   pub past_fetch : new.is_fetch ≡ false
   pub insn : new.insn ≡ (if old.is_fetch then read_by access else old.insn)
-  pub latest : new.access ≡ (if old.is_fetch then old.access else log_of access)
+  pub latest : new.access ≡ (if old.is_fetch then old.access else followed old.access access)
 
 abbrev pub traced_reads : {M : Type 0} → (M → ℕ → MemAccessSize → M → Option ℕ → Type 0)
     → TracedMemory M → ℕ → MemAccessSize → TracedMemory M → Option ℕ → Type 0

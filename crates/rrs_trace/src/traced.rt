@@ -1,13 +1,13 @@
-//! A memory that keeps the latest access that is no fetch.
+//! A memory that keeps the accesses of a step that are no fetch.
 
 ghost use Rattle.std.specs.Prelude.{◌≡◌, ◌%◌, true, None};
 ghost use Rattle.rrs_lib.specs.Bytes.{width};
 ghost use Rattle.rrs_lib.specs.Accesses.{Read, Write};
-ghost use Rattle.rrs_trace.specs.Retired.{no_access, mask, log_of};
+ghost use Rattle.rrs_trace.specs.Retired.{no_access, mask, log_of, followed};
 
 use rrs_lib::{MemAccessSize, Memory};
 
-/// A load or a store that was granted, or none: then all fields are 0.
+/// A load or a store that was granted, or both for an AMO, or none: then all fields are 0.
 ///
 /// Bit i of a mask is for the byte at `addr + i`.
 #[derive(Clone, Copy, Debug, PartialEq)]
@@ -69,10 +69,16 @@ fn read_access(addr: u32, size: MemAccessSize, answer: Option<u32>) -> MemoryAcc
     }
 }
 
-/// A write, or none where it was refused.
+/// A write with what was read before it, or none where it was refused.
 #[inline]
-fn write_access(addr: u32, size: MemAccessSize, value: u32, answer: bool) -> MemoryAccess
-    ensures { result ≡ log_of (Write addr size value answer) }
+fn write_access(
+    before: MemoryAccess,
+    addr: u32,
+    size: MemAccessSize,
+    value: u32,
+    answer: bool,
+) -> MemoryAccess
+    ensures { result ≡ followed before (Write addr size value answer) }
 {
     if !answer {
         return MemoryAccess::none();
@@ -84,15 +90,15 @@ fn write_access(addr: u32, size: MemAccessSize, value: u32, answer: bool) -> Mem
     };
     MemoryAccess {
         addr,
-        rmask: 0,
+        rmask: before.rmask,
         wmask: mask_of(size),
-        rdata: 0,
+        rdata: before.rdata,
         wdata,
     }
 }
 
-/// A memory of any type, lent for a step, that keeps what the fetch read and the latest access
-/// after it.
+/// A memory of any type, lent for a step, that keeps what the fetch read and what is accessed after
+/// it.
 ///
 /// Its bytes and what is writable are those of the memory that is lent, and each call is one call
 /// of that memory, with its answer.
@@ -104,7 +110,7 @@ pub struct TracedMemory<'a, M: Memory> {
     pub is_fetch: bool,
     /// What the fetch read, or `None` where it was refused or there was none.
     pub insn: Option<u32>,
-    /// The latest access after the fetch.
+    /// The latest access after the fetch. A write has what was read before it too.
     pub access: MemoryAccess,
 }
 
@@ -140,7 +146,7 @@ impl<'a, M: Memory> Memory for TracedMemory<'a, M> {
             self.is_fetch = false;
             self.insn = None;
         } else {
-            self.access = write_access(addr, size, store_data, answer);
+            self.access = write_access(self.access, addr, size, store_data, answer);
         }
         answer
     }
