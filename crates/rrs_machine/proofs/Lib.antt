@@ -1,4 +1,5 @@
 -- Lemmas of this crate.
+pub mod AtomicSteps
 pub mod MachineStepping
 pub mod Straying
 pub mod MachineRuns

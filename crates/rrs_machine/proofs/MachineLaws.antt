@@ -1,11 +1,13 @@
 -- Laws of a step with machine mode.
-use Rattle.std.proofs.Common.{◌≡◌, ◌≢◌, ℕ, ◌+◌, ◌%◌, ◌^◌, ◌==◌, ◌&&◌, Bool, true, false, if◌then◌else◌, Option, Some, None, Ok, refl, sym, subst, ap, ◌∙◌}
+use Rattle.std.proofs.Common.{◌≡◌, ◌≢◌, ℕ, ◌+◌, ◌%◌, ◌^◌, ◌==◌, ◌&&◌, Bool, true, false, if◌then◌else◌, Option, Some, None, Ok, Err, refl, sym, subst, ap, ◌∙◌}
 use Rattle.rrs_instruction.specs.declared.instruction_formats.IType.{IType}
+use Rattle.rrs_instruction.specs.declared.instruction_formats.RType.{RType}
 use Rattle.rrs_machine.specs.declared.csrs.CsrFile.{CsrFile}
 use Rattle.rrs_words.specs.declared.csrs.Csr.{Csr}
 use Rattle.rrs_words.specs.declared.csrs.Csr.TheVariants.{Mcycle, Mcycleh, Minstret, Minstreth}
 use Rattle.rrs_machine.specs.declared.csrs.Inputs.{Inputs}
 use Rattle.rrs_words.specs.declared.instructions.SystemRow.{SystemRow}
+use Rattle.rrs_words.specs.declared.atomics.AtomicRow.{AtomicRow}
 use Rattle.rrs_words.specs.declared.instructions.SystemRow.TheVariants.{Mret, Wfi, FenceI}
 use Rattle.rrs_machine.specs.declared.traps.Exception.TheVariants.{IllegalInstruction, InstructionMisaligned}
 use Rattle.rrs_machine.specs.declared.traps.Interrupt.{Interrupt}
@@ -13,12 +15,14 @@ use Rattle.rrs_machine.specs.declared.machine.MachineAnswer.{MachineAnswer}
 use Rattle.rrs_machine.specs.declared.machine.MachineAnswer.TheVariants.{Retired, Waiting, Raised, Interrupted}
 use Rattle.rrs_instruction.specs.Words.{bit}
 use Rattle.rrs_lib.specs.Machine.{State}
-use Rattle.rrs_lib.specs.Steps.{Step, next_word}
+use Rattle.rrs_lib.specs.Steps.{Step, StepAnswer, next_word, cleared}
 use Rattle.rrs_words.specs.CsrNumbers.{is_read_only}
 use Rattle.rrs_machine.specs.Csrs.{mode_of, found_csr, csr_written, cycle_counted, instruction_counted, retired_file, counted_beside}
 use Rattle.rrs_words.specs.SystemInstructions.{csr_number, writes_csr}
-use Rattle.rrs_machine.specs.Traps.{ready_interrupt, trap_file, return_file, exception_of}
-use Rattle.rrs_machine.specs.MachineSteps.{MachineState, MachineOutcome, ends, trapped, raises, accessed, csr_outcome, passed, wait_answer, is_permitted, permitted_outcome, system_outcome, IsNoSystem, Retires, Strays, Faults, Executes, MachineStep, Interrupts, Proceeds}
+use Rattle.rrs_machine.specs.Traps.{ready_interrupt, trap_file, return_file, exception_of, exception_of_word}
+use Rattle.rrs_atomics.specs.Atomics.{atomic_outcome}
+use Rattle.rrs_machine.specs.MachineSteps.{MachineState, MachineOutcome, ends, trapped, raises, accessed, csr_outcome, passed, wait_answer, is_permitted, permitted_outcome, system_outcome, reserving, opcode_like, atomic_ended, atomic_step, IsNoSystem, IsNoAtomic, Retires, Strays, Faults, Executes, Swaps, MachineStep, Interrupts, Proceeds}
+use Rattle.rrs_machine.proofs.AtomicSteps.{atomic_keeps}
 use Rattle.rrs_machine.specs.Laws.{KeepsValues, KeepsUnlessRetired, WritesNeither, instructions_after, cycles_after}
 
 -- ---- what a trap keeps
@@ -71,20 +75,23 @@ pub step_keeps : (i : Inputs) (s t : MachineState) (a : MachineAnswer) → Machi
 step_keeps i s t a (Interrupts x due after is) = by_answer a _ s.hart t.hart is (trap_keeps _ _ _ s t after)
 step_keeps i s t a (Proceeds none (Retires u step even after is)) = by_answer a Retired s.hart t.hart is tt
 step_keeps i s t a (Proceeds none (Strays u step odd after is)) = by_answer a _ s.hart t.hart is (trap_keeps _ _ _ s t after)
-step_keeps i s t a (Proceeds none (Faults u e step spares after is)) = by_answer a _ s.hart t.hart is (trap_keeps _ _ _ s t after)
+step_keeps i s t a (Proceeds none (Faults u e step spares calm after is)) = by_answer a _ s.hart t.hart is (trap_keeps _ _ _ s t after)
 step_keeps i s t a (Proceeds none (Executes w row f h outside is leaves)) =
     subst (Keeping s) (sym leaves) (system_keeps row f w i s)
+step_keeps i s t a (Proceeds none (Swaps w row f at leaves)) =
+    subst (Keeping s) (sym leaves) (atomic_keeps row f s at.is.1.in_range.0)
 
 -- ---- a step of the kit
 
 pub step_of_kit : (i : Inputs) (s t : MachineState) (a : MachineAnswer) → MachineStep i s t a → a ≡ Retired → IsNoSystem s.hart
-    → Step s.hart t.hart (Ok tt)
-step_of_kit i s t a (Interrupts x due after is) retired spares = absurd (cc)
-step_of_kit i s t a (Proceeds none (Retires u step even after is)) retired spares =
+    → IsNoAtomic s → Step s.hart t.hart (Ok tt)
+step_of_kit i s t a (Interrupts x due after is) retired spares calm = absurd (cc)
+step_of_kit i s t a (Proceeds none (Retires u step even after is)) retired spares calm =
     subst (λ (x : MachineState). Step s.hart x.hart (Ok tt)) (sym after) step
-step_of_kit i s t a (Proceeds none (Strays u step odd after is)) retired spares = absurd (cc)
-step_of_kit i s t a (Proceeds none (Faults u e step spares' after is)) retired spares = absurd (cc)
-step_of_kit i s t a (Proceeds none (Executes w row f h outside is leaves)) retired spares = absurd (spares w row f h outside is)
+step_of_kit i s t a (Proceeds none (Strays u step odd after is)) retired spares calm = absurd (cc)
+step_of_kit i s t a (Proceeds none (Faults u e step spares' calm' after is)) retired spares calm = absurd (cc)
+step_of_kit i s t a (Proceeds none (Executes w row f h outside is leaves)) retired spares calm = absurd (spares w row f h outside is)
+step_of_kit i s t a (Proceeds none (Swaps w row f at leaves)) retired spares calm = absurd (calm w row f at)
 
 -- ---- the counters
 
@@ -145,10 +152,10 @@ IsTrap _ = ⊥
 
 -- What a counter is after a step, by what it is after each way to count. The two CSRs are its halves.
 module _ (counter : CsrFile → ℕ) (after : MachineAnswer → ℕ → ℕ) (low high : Csr) (s : MachineState)
-    (at_trap : (cause value : ℕ) (a : MachineAnswer) → IsTrap a
-    → counter (cycle_counted (trap_file cause value s.hart.pc s.csrs)) ≡ after a (counter s.csrs))
+    (at_trap : (r : Option ℕ) (cause value pc : ℕ) (a : MachineAnswer) → IsTrap a
+    → counter (cycle_counted (trap_file cause value pc (reserving r s.csrs))) ≡ after a (counter s.csrs))
     (at_wait : counter (retired_file s.csrs) ≡ after Waiting (counter s.csrs))
-    (at_retired : counter (retired_file s.csrs) ≡ after Retired (counter s.csrs))
+    (at_retired : (r : Option ℕ) → counter (retired_file (reserving r s.csrs)) ≡ after Retired (counter s.csrs))
     (at_return : counter (retired_file (return_file s.csrs)) ≡ after Retired (counter s.csrs))
     (at_written : (csr : Csr) (v : ℕ) → (csr ≢ low) × (csr ≢ high)
     → counter (csr_written csr v (counted_beside csr s.csrs)) ≡ after Retired (counter s.csrs)) where
@@ -158,22 +165,22 @@ module _ (counter : CsrFile → ℕ) (after : MachineAnswer → ℕ → ℕ) (lo
   if_written : (b : Bool) (csr : Csr) (v : ℕ) → (b ≡ true → (csr ≢ low) × (csr ≢ high))
       → counter (if b then csr_written csr v (counted_beside csr s.csrs) else retired_file s.csrs) ≡ after Retired (counter s.csrs)
   if_written true csr v spares = at_written csr v (spares refl)
-  if_written false csr v spares = at_retired
+  if_written false csr v spares = at_retired s.csrs.reservation
 
   if_allowed : (b : Bool) (w : ℕ) (t : MachineState) → Counts (ends t Retired)
       → Counts (if b then raises (IllegalInstruction w) s else ends t Retired)
-  if_allowed true w t counts = at_trap 2 w (Raised (IllegalInstruction w)) tt
+  if_allowed true w t counts = at_trap s.csrs.reservation 2 w s.hart.pc (Raised (IllegalInstruction w)) tt
   if_allowed false w t counts = counts
 
   csr_counts : (row : SystemRow) (f : IType) (w : ℕ) (o : Option Csr) (i : Inputs)
       → ((csr : Csr) → writes_csr row f ≡ true → o ≡ Some csr → (csr ≢ low) × (csr ≢ high)) → Counts (csr_outcome row f w o i s)
-  csr_counts row f w None i spares = at_trap 2 w (Raised (IllegalInstruction w)) tt
+  csr_counts row f w None i spares = at_trap s.csrs.reservation 2 w s.hart.pc (Raised (IllegalInstruction w)) tt
   csr_counts row f w (Some csr) i spares =
       if_allowed (writes_csr row f && is_read_only (csr_number f)) w (accessed row f csr i s)
       (if_written (writes_csr row f) csr _ (λ writes. spares csr writes refl))
 
   wait_counts : (x : Option Interrupt) → Counts (ends (passed s) (wait_answer x))
-  wait_counts (Some x) = at_retired
+  wait_counts (Some x) = at_retired s.csrs.reservation
   wait_counts None = at_wait
 
   permitted_counts : (row : SystemRow) (f : IType) (w : ℕ) (i : Inputs)
@@ -181,12 +188,12 @@ module _ (counter : CsrFile → ℕ) (after : MachineAnswer → ℕ → ℕ) (lo
       → Counts (permitted_outcome row f w i s)
   permitted_counts Mret f w i spares = at_return
   permitted_counts Wfi f w i spares = wait_counts (ready_interrupt s.csrs i)
-  permitted_counts FenceI f w i spares = at_retired
+  permitted_counts FenceI f w i spares = at_retired s.csrs.reservation
   permitted_counts row f w i spares = csr_counts row f w (found_csr s.csrs (csr_number f)) i spares
 
   if_permitted : (b : Bool) (w : ℕ) (o : MachineOutcome) → Counts o → Counts (if b then o else raises (IllegalInstruction w) s)
   if_permitted true w o counts = counts
-  if_permitted false w o counts = at_trap 2 w (Raised (IllegalInstruction w)) tt
+  if_permitted false w o counts = at_trap s.csrs.reservation 2 w s.hart.pc (Raised (IllegalInstruction w)) tt
 
   system_counts : (row : SystemRow) (f : IType) (w : ℕ) (i : Inputs)
       → ((csr : Csr) → writes_csr row f ≡ true → found_csr s.csrs (csr_number f) ≡ Some csr → (csr ≢ low) × (csr ≢ high))
@@ -194,49 +201,60 @@ module _ (counter : CsrFile → ℕ) (after : MachineAnswer → ℕ → ℕ) (lo
   system_counts row f w i spares =
       if_permitted (is_permitted row (mode_of s.csrs) s.csrs) w _ (permitted_counts row f w i spares)
 
+  ended_counts : (row : AtomicRow) (u : State) (r : Option ℕ) (a : StepAnswer) → Counts (atomic_ended row u (reserving r s.csrs) a)
+  ended_counts row u r (Ok v) = at_retired r
+  ended_counts row u r (Err e) =
+      at_trap r _ _ u.pc (Raised (exception_of_word (mode_of s.csrs) (opcode_like row) e)) tt
+
+  atomic_counts : (row : AtomicRow) (f : RType) → Counts (atomic_step row f s)
+  atomic_counts row f =
+      let o = atomic_outcome row f (cleared s.hart) s.csrs.reservation in
+      ended_counts row o.after o.reservation o.answer
+
   trap_counts : (cause value target : ℕ) (t : MachineState) (a b : MachineAnswer) → t ≡ trapped cause value target s → a ≡ b → IsTrap b
       → counter t.csrs ≡ after a (counter s.csrs)
   trap_counts cause value target t a b leaves is trap =
-      ap (λ (x : MachineState). counter x.csrs) leaves ∙ at_trap cause value b trap ∙ ap (λ y. after y (counter s.csrs)) (sym is)
+      ap (λ (x : MachineState). counter x.csrs) leaves ∙ at_trap s.csrs.reservation cause value s.hart.pc b trap ∙ ap (λ y. after y (counter s.csrs)) (sym is)
 
   step_counts : (i : Inputs) (t : MachineState) (a : MachineAnswer) → MachineStep i s t a → WritesNeither low high s
       → counter t.csrs ≡ after a (counter s.csrs)
   step_counts i t a (Interrupts x due leaves is) spares = trap_counts _ _ _ t a (Interrupted x) leaves is tt
   step_counts i t a (Proceeds none (Retires u step even leaves is)) spares =
-      ap (λ (x : MachineState). counter x.csrs) leaves ∙ at_retired ∙ ap (λ y. after y (counter s.csrs)) (sym is)
+      ap (λ (x : MachineState). counter x.csrs) leaves ∙ at_retired s.csrs.reservation ∙ ap (λ y. after y (counter s.csrs)) (sym is)
   step_counts i t a (Proceeds none (Strays u step odd leaves is)) spares =
       trap_counts _ _ _ t a (Raised (InstructionMisaligned u.pc)) leaves is tt
-  step_counts i t a (Proceeds none (Faults u e step spares' leaves is)) spares =
+  step_counts i t a (Proceeds none (Faults u e step spares' calm' leaves is)) spares =
       trap_counts _ _ _ t a (Raised (exception_of (mode_of s.csrs) (next_word s.hart) e)) leaves is tt
   step_counts i t a (Proceeds none (Executes w row f h outside is leaves)) spares =
       subst Counts (sym leaves) (system_counts row f w i (λ csr. spares w row f csr h is))
+  step_counts i t a (Proceeds none (Swaps w row f at leaves)) spares = subst Counts (sym leaves) (atomic_counts row f)
 
 -- minstret counts the instructions that retire
 pub step_minstret : (i : Inputs) (s t : MachineState) (a : MachineAnswer) → MachineStep i s t a → bit s.csrs.mcountinhibit 2 ≡ 0
     → WritesNeither Minstret Minstreth s → t.csrs.minstret ≡ instructions_after a s.csrs.minstret
 step_minstret i s t a step on spares =
     step_counts (λ f. f.minstret) instructions_after Minstret Minstreth s
-    at_trap (retired-minstret s.csrs on) (retired-minstret s.csrs on) (retired-minstret (return_file s.csrs) on)
+    at_trap (retired-minstret s.csrs on) (λ r. retired-minstret (reserving r s.csrs) on) (retired-minstret (return_file s.csrs) on)
     (λ csr v other. written-minstret csr v s.csrs other on) i t a step spares
   where
-    at_trap : (cause value : ℕ) (a : MachineAnswer) → IsTrap a
-        → (cycle_counted (trap_file cause value s.hart.pc s.csrs)).minstret ≡ instructions_after a s.csrs.minstret
-    at_trap cause value (Raised x) trap = cycle-minstret (trap_file cause value s.hart.pc s.csrs)
-    at_trap cause value (Interrupted x) trap = cycle-minstret (trap_file cause value s.hart.pc s.csrs)
-    at_trap cause value Retired trap = absurd trap
-    at_trap cause value Waiting trap = absurd trap
+    at_trap : (r : Option ℕ) (cause value pc : ℕ) (a : MachineAnswer) → IsTrap a
+        → (cycle_counted (trap_file cause value pc (reserving r s.csrs))).minstret ≡ instructions_after a s.csrs.minstret
+    at_trap r cause value pc (Raised x) trap = cycle-minstret (trap_file cause value pc (reserving r s.csrs))
+    at_trap r cause value pc (Interrupted x) trap = cycle-minstret (trap_file cause value pc (reserving r s.csrs))
+    at_trap r cause value pc Retired trap = absurd trap
+    at_trap r cause value pc Waiting trap = absurd trap
 
 -- mcycle counts the steps
 pub step_mcycle : (i : Inputs) (s t : MachineState) (a : MachineAnswer) → MachineStep i s t a → bit s.csrs.mcountinhibit 0 ≡ 0
     → WritesNeither Mcycle Mcycleh s → t.csrs.mcycle ≡ cycles_after a s.csrs.mcycle
 step_mcycle i s t a step on spares =
     step_counts (λ f. f.mcycle) cycles_after Mcycle Mcycleh s
-    at_trap (retired-mcycle s.csrs on) (retired-mcycle s.csrs on) (retired-mcycle (return_file s.csrs) on)
+    at_trap (retired-mcycle s.csrs on) (λ r. retired-mcycle (reserving r s.csrs) on) (retired-mcycle (return_file s.csrs) on)
     (λ csr v other. written-mcycle csr v s.csrs other on) i t a step spares
   where
-    at_trap : (cause value : ℕ) (a : MachineAnswer) → IsTrap a
-        → (cycle_counted (trap_file cause value s.hart.pc s.csrs)).mcycle ≡ cycles_after a s.csrs.mcycle
-    at_trap cause value (Raised x) trap = cycle-mcycle (trap_file cause value s.hart.pc s.csrs) on
-    at_trap cause value (Interrupted x) trap = cycle-mcycle (trap_file cause value s.hart.pc s.csrs) on
-    at_trap cause value Retired trap = absurd trap
-    at_trap cause value Waiting trap = absurd trap
+    at_trap : (r : Option ℕ) (cause value pc : ℕ) (a : MachineAnswer) → IsTrap a
+        → (cycle_counted (trap_file cause value pc (reserving r s.csrs))).mcycle ≡ cycles_after a s.csrs.mcycle
+    at_trap r cause value pc (Raised x) trap = cycle-mcycle (trap_file cause value pc (reserving r s.csrs)) on
+    at_trap r cause value pc (Interrupted x) trap = cycle-mcycle (trap_file cause value pc (reserving r s.csrs)) on
+    at_trap r cause value pc Retired trap = absurd trap
+    at_trap r cause value pc Waiting trap = absurd trap

@@ -1,5 +1,5 @@
 -- What a traced memory has after the accesses of a step with machine mode, and which register was written last.
-use Rattle.std.proofs.Common.{◌≡◌, ℕ, zero, suc, ◌<◌, ◌&&◌, ◌^◌, ℤ, List, Bool, true, Option, Some, None, Ok, sym, subst, ap, ◌∙◌, arith}
+use Rattle.std.proofs.Common.{◌≡◌, ℕ, zero, suc, ◌<◌, ◌&&◌, ◌^◌, ℤ, List, [], ◌∷◌, Bool, true, Option, Some, None, Ok, sym, subst, ap, ◌∙◌, arith}
 use Rattle.std.proofs.lemmas.Bool.{cond_both}
 use Rattle.rrs_instruction.specs.declared.instruction_formats.IType.{IType}
 use Rattle.rrs_lib.specs.declared.MemAccessSize.{MemAccessSize}
@@ -9,18 +9,21 @@ use Rattle.rrs_words.specs.declared.instructions.SystemRow.{SystemRow}
 use Rattle.rrs_words.specs.declared.instructions.SystemRow.TheVariants.{Csrrw, Csrrs, Csrrc, Csrrwi, Csrrsi, Csrrci, Mret, Wfi, FenceI}
 use Rattle.rrs_machine.specs.declared.machine.MachineAnswer.{MachineAnswer}
 use Rattle.rrs_lib.specs.Machine.{State, put}
-use Rattle.rrs_lib.specs.Steps.{LastIsRegister, cleared}
-use Rattle.rrs_lib.specs.Accesses.{Access, AccessesOf, Makes, MakesExactly}
+use Rattle.rrs_lib.specs.Steps.{LastIsRegister, next_word, cleared}
+use Rattle.rrs_lib.specs.Accesses.{Access, MakesExactly, fetch}
+use Rattle.rrs_atomics.specs.Atomics.{accesses_of_atomic}
 use Rattle.rrs_lib.proofs.Keeping.{Step-last}
 use Rattle.rrs_trace.specs.declared.traced.TracedMemory.{TracedMemory}
 use Rattle.rrs_trace.specs.Retired.{no_access, after_fetch}
-use Rattle.rrs_trace.specs.Traced.{traced_reads, traced_writes}
-use Rattle.rrs_trace.proofs.TracedAccesses.{step_kept, inner_exactly, still_lent}
+use Rattle.rrs_trace.specs.Traced.{read_by, traced_reads, traced_writes}
+use Rattle.rrs_trace.proofs.TracedAccesses.{Keeps, keeps_none, kept_step, those_kept, inner_exactly, still_lent}
 use Rattle.rrs_words.specs.CsrNumbers.{is_read_only}
 use Rattle.rrs_machine.specs.Csrs.{mode_of, found_csr}
 use Rattle.rrs_words.specs.SystemInstructions.{csr_number, writes_csr}
-use Rattle.rrs_machine.specs.MachineSteps.{MachineState, MachineOutcome, InstructionStep, Retires, Strays, Faults, Executes, MachineStep, Interrupts, Proceeds, AccessesOfMachineStep, OfInterrupt, OfInstruction, csr_outcome, is_permitted, permitted_outcome, system_outcome}
+use Rattle.rrs_machine.specs.MachineSteps.{MachineState, MachineOutcome, InstructionStep, Retires, Strays, Faults, Executes, Swaps, MachineStep, Interrupts, Proceeds, AccessesOfInstruction, OfKit, OfAtomic, AccessesOfMachineStep, OfInterrupt, OfInstruction, csr_outcome, is_permitted, permitted_outcome, system_outcome}
 use Rattle.rrs_machine.specs.MachineRecords.{word_unless, word_of_step}
+use Rattle.rrs_machine.proofs.MachineStepping.{word_stands}
+use Rattle.rrs_machine.proofs.AtomicSteps.{atomic_last, atomic_after}
 
 -- ---- the register that was written last
 
@@ -59,9 +62,11 @@ HasLast t = LastIsRegister t.hart.last
 instruction_last : (i : Inputs) (s t : MachineState) (a : MachineAnswer) → InstructionStep i s t a → HasLast t
 instruction_last i s t a (Retires u step even after is) = subst HasLast (sym after) (Step-last s.hart u (Ok tt) step)
 instruction_last i s t a (Strays u step odd after is) = subst HasLast (sym after) tt
-instruction_last i s t a (Faults u e step none after is) = subst HasLast (sym after) tt
+instruction_last i s t a (Faults u e step none calm after is) = subst HasLast (sym after) tt
 instruction_last i s t a (Executes w row f h outside is leaves) =
     subst HasLast (sym (ap (λ (o : MachineOutcome). o.after) leaves)) (outcome_last row f w i s is.in_range.0)
+instruction_last i s t a (Swaps w row f at leaves) =
+    subst HasLast (sym (ap (λ (o : MachineOutcome). o.after) leaves)) (atomic_last row f s at.is.1.in_range.0)
 
 pub machine_last : (i : Inputs) (s t : MachineState) (a : MachineAnswer) → MachineStep i s t a → HasLast t
 machine_last i s t a (Interrupts x due after is) = subst HasLast (sym after) tt
@@ -69,39 +74,40 @@ machine_last i s t a (Proceeds none step) = instruction_last i s t a step
 
 -- ---- the word and the access that are kept
 
+-- the word at an aligned pc is what the fetch read
+fetch_read : (s : State) (w : ℕ) → next_word s ≡ Some w → read_by (fetch s) ≡ next_word s
+fetch_read s w next = (word_stands s w next).1 ∙ sym next
+
+instruction_kept : (s : MachineState) (xs : List Access) → AccessesOfInstruction s xs → Keeps (next_word s.hart) xs
+instruction_kept s xs (OfKit none of) = kept_step s.hart xs of
+instruction_kept s xs (OfAtomic w row f at are) =
+    let after = atomic_after (fetch s.hart) row f (cleared s.hart) s.csrs.reservation in
+    subst (Keeps (next_word s.hart)) (sym are)
+    (subst (λ o. Keeps o (fetch s.hart ∷ accesses_of_atomic row f (cleared s.hart) s.csrs.reservation)) (fetch_read s.hart w at.fetched) after)
+
+machine_step_kept : (i : Inputs) (s : MachineState) (xs : List Access) → AccessesOfMachineStep i s xs → Keeps (word_of_step i s) xs
+machine_step_kept i s xs (OfInterrupt x due are) =
+    subst (Keeps (word_of_step i s)) (sym are) (subst (λ d. Keeps (word_unless d s.hart) []) (sym due) keeps_none)
+machine_step_kept i s xs (OfInstruction none of) =
+    subst (λ d. Keeps (word_unless d s.hart) xs) (sym none) (instruction_kept s xs of)
+
 module _ {M : Type 0} (reads : M → ℕ → MemAccessSize → M → Option ℕ → Type 0)
     (writes : M → ℕ → MemAccessSize → ℕ → M → Bool → Type 0) where
-  abbrev Keeps : Inputs → MachineState → TracedMemory M → Type 0
-  Keeps i s new = (new.insn ≡ word_of_step i s)
+  abbrev Told : Inputs → MachineState → TracedMemory M → Type 0
+  Told i s new = (new.insn ≡ word_of_step i s)
       × ((xs : List Access) → AccessesOfMachineStep i s xs → new.access ≡ after_fetch xs)
 
   machine_kept : (i : Inputs) (s : MachineState) (old new : TracedMemory M)
       → old.is_fetch ≡ true → old.insn ≡ None → old.access ≡ no_access
-      → MakesExactly (traced_reads reads) (traced_writes writes) (AccessesOfMachineStep i s) old new → Keeps i s new
-  machine_kept i s old new armed no_word empty exactly = by_case exactly.these where
-    by_case : AccessesOfMachineStep i s exactly.accesses → Keeps i s new
-    by_case (OfInterrupt x due are) =
-        let same : new ≡ old = subst (λ xs. Makes (traced_reads reads) (traced_writes writes) xs old new) are exactly.made in (
-          ap (λ m. m.insn) same ∙ no_word ∙ ap (λ d. word_unless d s.hart) (sym due),
-          λ xs of. ap (λ m. m.access) same ∙ empty ∙ ap after_fetch (sym (exactly.only xs of ∙ are)),
-        )
-    by_case (OfInstruction none of) =
-        let inner : MakesExactly (traced_reads reads) (traced_writes writes) (AccessesOf s.hart) old new = record {
-          accesses = exactly.accesses;
-          these = of;
-          only = λ xs is. exactly.only xs (OfInstruction none is);
-          made = exactly.made;
-        } in
-        let kept = step_kept reads writes old new armed no_word empty s.hart inner in (
-          kept.0 ∙ ap (λ d. word_unless d s.hart) (sym none),
-          λ xs meant. kept.1 xs (subst (AccessesOf s.hart) (sym (exactly.only xs meant)) of),
-        )
+      → MakesExactly (traced_reads reads) (traced_writes writes) (AccessesOfMachineStep i s) old new → Told i s new
+  machine_kept i s old new armed no_word empty exactly =
+      those_kept reads writes (AccessesOfMachineStep i s) (word_of_step i s) (machine_step_kept i s) old new armed no_word empty exactly
 
   -- the same of the memory that the one after the step is
   module _ (i : Inputs) (s : MachineState) (old new now : TracedMemory M) (same : new ≡ now)
       (exactly : MakesExactly (traced_reads reads) (traced_writes writes) (AccessesOfMachineStep i s) old new) where
-    pub keeps_now : old.is_fetch ≡ true → old.insn ≡ None → old.access ≡ no_access → Keeps i s now
-    keeps_now armed no_word empty = subst (Keeps i s) same (machine_kept i s old new armed no_word empty exactly)
+    pub keeps_now : old.is_fetch ≡ true → old.insn ≡ None → old.access ≡ no_access → Told i s now
+    keeps_now armed no_word empty = subst (Told i s) same (machine_kept i s old new armed no_word empty exactly)
 
     pub exactly_now : MakesExactly reads writes (AccessesOfMachineStep i s) old.memory.now now.memory.now
     exactly_now = subst (λ (m : TracedMemory M). MakesExactly reads writes (AccessesOfMachineStep i s) old.memory.now m.memory.now)

@@ -8,7 +8,7 @@ use Rattle.rrs_machine.specs.declared.traps.Exception.TheVariants.{InstructionMi
 use Rattle.rrs_machine.specs.declared.machine.MachineAnswer.TheVariants.{Raised}
 use Rattle.rrs_machine.specs.Traps.{exception_of_word}
 use Rattle.rrs_machine.specs.MachineSteps.{machine, machine_of, raised, Retires, Strays}
-use Rattle.rrs_machine.proofs.MachineStepping.{faulted, next_stands, raised-cleared}
+use Rattle.rrs_machine.proofs.MachineStepping.{legal_no_atomic, faulted, next_stands, raised-cleared}
 use Rattle.rrs_machine.proofs.Straying.{strays_apart}
 use Rattle.rrs_machine.proofs.machine.execute.Goals as goal
 
@@ -60,5 +60,6 @@ returns-in-Err-clause-step g c = λ inputs.
     let x = c.exception_of_word-exception.ensures ∙ ap (λ m. exception_of_word m w c.in-Err.fault) c.mode.ensures in
     faulted inputs (machine s csrs) _ _ u c.in-Err.fault w step (next_stands s w c.requires.aligned c.requires.word)
     (λ row f illegal is. illegal _ _ c.requires.is)
+    (legal_no_atomic (machine s csrs) w _ _ (next_stands s w c.requires.aligned c.requires.word) c.requires.is)
     (c.raise-in-Err.ensures.raised bytes writable ∙ raised-cleared c.exception_of_word-exception.result h s csrs same ∙ ap (λ y. raised y (machine s csrs)) x)
     (c.raise-in-Err.ensures.answer ∙ ap Raised x)
