@@ -62,7 +62,7 @@ abbrev fields_in_R : RType → Fields → RType
 fields_in_R other (R f) = f
 fields_in_R other _ = other
 
-atomic-unique : (w : ℕ) (row row' : AtomicRow) (f f' : RType) → IsAtomic w row f → IsAtomic w row' f' → (row ≡ row') × (f ≡ f')
+pub atomic-unique : (w : ℕ) (row row' : AtomicRow) (f f' : RType) → IsAtomic w row f → IsAtomic w row' f' → (row ≡ row') × (f ≡ f')
 atomic-unique w row row' f f' is is' =
     let fields = same_fields_of w 0x2f (R f) (R f') (lit< tt) refl is.in_range is'.in_range is.encoded is'.encoded in
     let same : f ≡ f' = ap (fields_in_R f) fields in
@@ -80,11 +80,13 @@ other_opcode : (row : SystemRow) → (system_table row).opcode ≡ 0x2f → ⊥
 other_opcode FenceI same = omega (arith, same)
 other_opcode _ same = omega (arith, same)
 
+pub never_both : (w : ℕ) (row : AtomicRow) (row' : SystemRow) (f : RType) (f' : IType) → IsAtomic w row f → IsSystem w row' f' → ⊥
+never_both w row row' f f' is is' = other_opcode row' (sym (opcode_of w row' f' is') ∙ (atomic_places w row f is).0)
+
 pub not_system : (s : MachineState) (w w' : ℕ) (row : AtomicRow) (row' : SystemRow) (f : RType) (f' : IType) → AtomicAt s w row f
     → next_word s.hart ≡ Some w' → IsSystem w' row' f' → ⊥
 not_system s w w' row row' f f' at next is =
-    let words = same_Some _ _ (sym next ∙ at.fetched) in
-    other_opcode row' (sym (opcode_of w' row' f' is) ∙ ap (λ x. x % 128) words ∙ (atomic_places w row f at.is.1).0)
+    never_both w row row' f f' at.is.1 (subst (λ x. IsSystem x row' f') (same_Some _ _ (sym next ∙ at.fetched)) is)
 
 -- ---- what is left
 

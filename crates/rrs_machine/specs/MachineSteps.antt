@@ -1,10 +1,10 @@
 -- One step of a hart that has machine mode, alone or with user mode (RISC-V privileged
 -- specification 1.12, "Machine-Level ISA"; unprivileged specification, "Zicsr": an instruction on a
--- CSR reads the old value and then writes), with or without extension A (rrs_atomics). An instruction of the 48 rows does what the kit's own
--- step does, in both modes. Two things are decided here: a jump or a taken branch to a misaligned
--- address raises its exception at the jump, with no register written, as the specification has it;
--- and a wfi retires at once, with an answer that tells whether the hart waits, so that an interrupt
--- that comes meanwhile is taken after it.
+-- CSR reads the old value and then writes), with or without extension A (rrs_atomics). An
+-- instruction of the 48 rows does what the kit's own step does, in both modes. Two things are
+-- decided here: a jump or a taken branch to a misaligned address raises its exception at the jump,
+-- with no register written, as the specification has it; and a wfi retires at once, with an answer
+-- that tells whether the hart waits, so that an interrupt that comes meanwhile is taken after it.
 use Rattle.std.specs.Prelude.{◌≡◌, ◌≢◌, ℕ, ◌+◌, ◌%◌, ◌^◌, ◌==◌, ◌&&◌, List, [], ◌∷◌, Bool, pos, true, false, not, if◌then◌else◌, Option, Some, None, Ok, Err}
 use Rattle.rrs_lib.specs.declared.HartState.{HartState}
 use Rattle.rrs_lib.specs.declared.instruction_executor.InstructionException.{InstructionException}

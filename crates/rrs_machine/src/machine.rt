@@ -467,12 +467,13 @@ fn step_instruction<M: Memory>(
 ///
 /// The clauses: what happened is a step (`step`), and no other one leads from there (`only`); what
 /// is no part of the state stays (`rest`); the memory goes from what it was to what it is by
-/// exactly the accesses of the step: those of the kit's step, for extension A the fetch and those of
-/// `execute_atomic`, or none where an interrupt is taken (`accesses`). Four more are laws that follow
-/// from these. Where no instruction retires, registers and bytes stay (`traps`). An instruction that
-/// retires, and is none of those that the 48 rows leave out, is a step of the kit (`kit`). While IR of `mcountinhibit` is 0 and the
-/// instruction does not write it, `minstret` counts the instructions that retire (`minstret`).
-/// Likewise, by CY, `mcycle` counts the steps (`mcycle`).
+/// exactly the accesses of the step: those of the kit's step, for extension A the fetch and those
+/// of `execute_atomic`, or none where an interrupt is taken (`accesses`). Four more are laws that
+/// follow from these. Where no instruction retires, registers and bytes stay (`traps`). An
+/// instruction that retires, and is none of those that the 48 rows leave out, is a step of the kit
+/// (`kit`). While IR of `mcountinhibit` is 0 and the instruction does not write it, `minstret`
+/// counts the instructions that retire (`minstret`). Likewise, by CY, `mcycle` counts the steps
+/// (`mcycle`).
 #[inline(always)]
 pub fn step_machine<M: Memory>(
     executor: &mut InstructionExecutor<M>,

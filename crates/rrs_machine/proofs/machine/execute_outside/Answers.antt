@@ -3,7 +3,8 @@ use Rattle.rrs_lib.specs.declared.instruction_executor.InstructionException.TheV
 use Rattle.rrs_lib.specs.Machine.{state_of}
 use Rattle.rrs_lib.specs.Steps.{Illegal, cleared}
 use Rattle.rrs_lib.proofs.Making.{accesses_of_illegal}
-use Rattle.rrs_machine.specs.MachineSteps.{machine_of, Executes, Swaps, OfKit, OfAtomic}
+use Rattle.rrs_atomics.specs.Atomics.{accesses_of_atomic}
+use Rattle.rrs_machine.specs.MachineSteps.{machine_of, AtomicAt, Executes, Swaps, OfKit, OfAtomic}
 use Rattle.rrs_machine.proofs.MachineStepping.{faulted, next_stands, no_atomic_word}
 use Rattle.rrs_machine.proofs.AtomicSteps.{not_system}
 use Rattle.rrs_machine.proofs.machine.execute_outside.Goals as goal
@@ -46,11 +47,15 @@ returns-in-Some-atomic_of-clause-step g c = λ even read.
 pub returns-in-Some-atomic_of-clause-makes : goal.returns-in-Some-atomic_of-clause-makes
 returns-in-Some-atomic_of-clause-makes g c = λ even read.
     let memory = g.M.Memory in
-    let h = state_of c.args.hart.now (memory.bytes c.args.mem.now) (memory.writable c.args.mem.now) in
+    let bytes = memory.bytes c.args.mem.now in
+    let writable = memory.writable c.args.mem.now in
+    let h = state_of c.args.hart.now bytes writable in
+    let s = machine_of c.args.hart.now c.args.csrs.now bytes writable in
     let x = c.in-Some-atomic_of.instruction in
     let w = c.args.word in
-    let at = record { fetched = next_stands h w even read; outside = c.requires; is = c.in-Some-atomic_of.ensures.decoded } in
-    (_, OfAtomic w x.row x.fields at refl, c.swap.ensures.makes)
+    let at : AtomicAt s w x.row x.fields = record { fetched = next_stands h w even read; outside = c.requires; is = c.in-Some-atomic_of.ensures.decoded } in
+    let accesses = accesses_of_atomic x.row x.fields (cleared h) c.args.csrs.now.reservation in
+    (accesses, OfAtomic w x.row x.fields at refl, c.swap.ensures.makes)
 
 pub returns-clause-step : goal.returns-clause-step
 returns-clause-step g c = λ even read.
