@@ -1,6 +1,6 @@
 -- A word is one instruction of extension A at most, and none of those that are in the table of system instructions; and
 -- what such an instruction leaves and accesses.
-use Rattle.std.proofs.Common.{◌≡◌, ℕ, ◌/◌, ◌%◌, ◌^◌, ◌<◌, ◌==◌, ℤ, zero, suc, pos, List, [], ◌∷◌, Bool, true, false, if◌then◌else◌, Option, Some, None, Ok, Err, OnErr, refl, sym, subst, ap, ◌∙◌, lit<, arith}
+use Rattle.std.proofs.Common.{◌≡◌, ℕ, ◌/◌, ◌%◌, ◌^◌, ◌<◌, ◌==◌, ℤ, zero, suc, pos, List, ◌∷◌, Bool, true, false, if◌then◌else◌, Option, Some, None, Ok, Err, OnErr, refl, sym, subst, ap, ◌∙◌, lit<, arith}
 use Rattle.std.proofs.lemmas.Option.{same_Some}
 use Rattle.rrs_instruction.specs.declared.instruction_formats.IType.{IType}
 use Rattle.rrs_instruction.specs.declared.instruction_formats.RType.{RType}
@@ -10,7 +10,7 @@ use Rattle.rrs_memory.specs.declared.MemAccessSize.TheVariants.{Word}
 use Rattle.rrs_memory.specs.Bytes.{little_endian, all_writable}
 use Rattle.rrs_lib.specs.Machine.{State, reg, put}
 use Rattle.rrs_lib.specs.Steps.{StepAnswer, LastIsRegister, next_word, cleared}
-use Rattle.rrs_lib.specs.Accesses.{Access, read_in, write_in, fetch}
+use Rattle.rrs_lib.specs.Accesses.{Access, read_in, write_in}
 use Rattle.rrs_words.specs.declared.instructions.SystemRow.{SystemRow}
 use Rattle.rrs_words.specs.declared.instructions.SystemRow.TheVariants.{FenceI}
 use Rattle.rrs_words.specs.declared.atomics.AtomicRow.{AtomicRow}
@@ -23,7 +23,6 @@ use Rattle.rrs_atomics.specs.Atomics.{AtomicOutcome, combined, holds, stored, le
 use Rattle.rrs_trace.proofs.TracedAccesses.{Keeps, keeps_fetch, keeps_one, keeps_two}
 use Rattle.rrs_trace.specs.Traced.{read_by}
 use Rattle.rrs_machine.specs.declared.csrs.CsrFile.{CsrFile}
-use Rattle.rrs_machine.specs.declared.machine.MachineAnswer.{MachineAnswer}
 use Rattle.rrs_machine.specs.Laws.{KeepsUnlessRetired}
 use Rattle.rrs_machine.specs.MachineSteps.{MachineState, AtomicAt, atomic_ended, atomic_step, reserving}
 

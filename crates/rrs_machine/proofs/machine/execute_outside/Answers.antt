@@ -1,4 +1,4 @@
-use Rattle.std.proofs.Common.{◌≡◌, [], refl}
+use Rattle.std.proofs.Common.{[], refl}
 use Rattle.rrs_lib.specs.declared.instruction_executor.InstructionException.TheVariants.{IllegalInstruction}
 use Rattle.rrs_lib.specs.Machine.{state_of}
 use Rattle.rrs_lib.specs.Steps.{Illegal, cleared}
