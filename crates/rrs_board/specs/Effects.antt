@@ -1,6 +1,6 @@
 -- What the devices do between two steps: they answer to the access that the step made, and time
 -- goes on. What each of them is, is in Uart, Clint and Finisher.
-use Rattle.std.specs.Prelude.{ℕ, ◌+◌, ◌-◌, ◌*◌, ◌/◌, ◌%◌, ◌^◌, ◌==◌, ◌&&◌, ◌||◌, nat_lt, not, Bool, false, if◌then◌else◌, Option, Some, None}
+use Rattle.std.specs.Prelude.{ℕ, ◌+◌, ◌-◌, ◌*◌, ◌/◌, ◌%◌, ◌^◌, ◌&&◌, ◌||◌, nat_lt, not, Bool, false, if◌then◌else◌, Option, Some, None}
 use Rattle.rrs_machine.specs.declared.csrs.CsrFile.{CsrFile}
 use Rattle.rrs_machine.specs.declared.csrs.Inputs.{Inputs}
 use Rattle.rrs_machine.specs.declared.machine.MachineAnswer.{MachineAnswer}
@@ -10,6 +10,7 @@ use Rattle.rrs_board.specs.declared.devices.DeviceAccess.{DeviceAccess}
 use Rattle.rrs_board.specs.declared.uart.Uart.{Uart}
 use Rattle.rrs_board.specs.declared.effects.BoardEvent.{BoardEvent}
 use Rattle.rrs_board.specs.declared.effects.BoardEvent.TheVariants.{Transmitted, Looked, Finished, Waits, NothingWakes}
+use Rattle.rrs_board.specs.Registers.{wrote, looked_at}
 use Rattle.rrs_board.specs.Uart.{reset_uart, has_divisor, has_byte, asks_for_data, shown, after_look, after_write, after_arrival}
 use Rattle.rrs_board.specs.Clint.{no_alarm, has_software_interrupt, has_timer_interrupt, time_after, can_wake, later}
 use Rattle.rrs_board.specs.Finisher.{status_of}
@@ -61,15 +62,6 @@ finisher_start = 0x100000
 abbrev pub uart_start : ℕ
 uart_start = 0x10000000
 
--- the program wrote to this address, or read from it
-abbrev pub wrote : ℕ → Option DeviceAccess → Bool
-wrote address None = false
-wrote address (Some a) = a.is_write && (a.address == address)
-
-abbrev pub looked_at : ℕ → Option DeviceAccess → Bool
-looked_at address None = false
-looked_at address (Some a) = not a.is_write && (a.address == address)
-
 -- the program transmitted a byte
 abbrev pub transmits : Devices → Bool
 transmits d = wrote uart_start d.access && not (has_divisor d.uart)
@@ -85,13 +77,18 @@ abbrev pub byte_at : ℕ → Devices → ℕ
 byte_at offset d =
     (if nat_lt offset 4 then d.uart_low else d.uart_high) / 256 ^ (offset % 4) % 256
 
--- The UART after an access. One of several bytes is one to the register at its address alone.
+-- the UART after the look at an offset that an access is, or after none
+abbrev pub looked : Bool → ℕ → Uart → Uart
+looked is_read offset u = if is_read then after_look offset u else u
+
+-- The UART after an access. An AMO on a device's register is a read and then a write, and the
+-- devices answer each. An access of several bytes is one to the register at its address alone.
 abbrev pub uart_after : DeviceAccess → Devices → Uart
 uart_after a d =
     if nat_lt a.address uart_start then d.uart
-    else (if a.is_write
-    then after_write (a.address - uart_start) (byte_at (a.address - uart_start) d) d.uart
-    else after_look (a.address - uart_start) d.uart)
+    else (let offset = a.address - uart_start in
+    if a.is_write then after_write offset (byte_at offset d) (looked a.is_read offset d.uart)
+    else looked a.is_read offset d.uart)
 
 -- the devices after they answered to an access: the finisher reads 0, and msip has one bit
 abbrev pub answered_access : DeviceAccess → Devices → Devices

@@ -2,13 +2,14 @@
 -- 0x100000, a CLINT at 0x2000000 with msip, mtimecmp and mtime, a UART 16550 at 0x10000000, RAM
 -- from 0x80000000 on). During a step a register is a word of memory: what is written reads back. An
 -- access to one is noted, and between two steps the devices answer to it.
-use Rattle.std.specs.Prelude.{◌≡◌, ℕ, ◌+◌, ◌-◌, ◌*◌, ◌/◌, ◌%◌, ◌^◌, ◌<◌, ◌≤◌, ◌==◌, nat_lt, Bool, true, false, if◌then◌else◌, List, [], Option, Some, None}
+use Rattle.std.specs.Prelude.{◌≡◌, ℕ, ◌+◌, ◌-◌, ◌*◌, ◌/◌, ◌%◌, ◌^◌, ◌<◌, ◌≤◌, ◌==◌, ◌&&◌, ◌||◌, nat_lt, not, Bool, true, false, if◌then◌else◌, List, [], Option, Some, None}
 use Rattle.std.specs.Bool.{OnTrue, OnFalse}
 use Rattle.rrs_memory.specs.declared.MemAccessSize.{MemAccessSize}
 use Rattle.rrs_memory.specs.Bytes.{ByteMap, width}
 use Rattle.rrs_memory.specs.declared.memories.VecMemory.{VecMemory}
 use Rattle.rrs_memory.specs.VecBytes.{vec_layout, VecWrites}
 use Rattle.rrs_memory.specs.SliceBytes.{bytes_from, lies_from}
+use Rattle.rrs_board.specs.declared.devices.DeviceAccess.{DeviceAccess}
 use Rattle.rrs_board.specs.declared.devices.Devices.{Devices}
 use Rattle.rrs_board.specs.declared.memory.BoardMemory.{BoardMemory}
 
@@ -70,10 +71,25 @@ device_writable d a = is_word (register d (start_of a))
 abbrev pub device_layout : Devices → List ℕ
 device_layout d = []
 
--- the devices with an access noted
+-- the program wrote to this address, or read from it
+abbrev pub wrote : ℕ → Option DeviceAccess → Bool
+wrote address None = false
+wrote address (Some a) = a.is_write && (a.address == address)
+
+abbrev pub looked_at : ℕ → Option DeviceAccess → Bool
+looked_at address None = false
+looked_at address (Some a) = a.is_read && (a.address == address)
+
+-- The devices with an access noted. A write goes with a read of its address before it in the step,
+-- as that of an AMO does, and of others the last is kept.
 abbrev pub noted : Devices → ℕ → Bool → Devices
-noted d address is_write =
-    record d { access = Some (record { address = address; is_write = is_write }) }
+noted d address is_write = record d {
+  access = Some (record {
+    address = address;
+    is_read = not is_write || looked_at address d.access;
+    is_write = is_write;
+  });
+}
 
 -- a read that is answered is noted, and changes nothing else
 abbrev pub after_read : Devices → ℕ → Option ℕ → Devices

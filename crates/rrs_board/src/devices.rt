@@ -2,7 +2,7 @@
 
 ghost use Rattle.std.specs.Prelude.{◌≡◌, ◌+◌, ◌*◌, ◌/◌, ◌%◌, ◌^◌, ◌≤◌, ◌<◌};
 ghost use Rattle.rrs_memory.specs.Bytes.{width};
-ghost use Rattle.rrs_board.specs.Registers.{register, with_register, start_of, with_bytes, noted, after_read};
+ghost use Rattle.rrs_board.specs.Registers.{register, with_register, start_of, with_bytes, wrote, looked_at, noted, after_read};
 ghost use Rattle.rrs_board.specs.Effects.{reset_devices};
 
 use crate::uart::Uart;
@@ -14,6 +14,8 @@ use rrs_memory::{MemAccessSize, Memory};
 pub struct DeviceAccess {
     /// The address.
     pub address: u32,
+    /// Whether it is a read; an AMO reads and then writes.
+    pub is_read: bool,
     /// Whether it is a write.
     pub is_write: bool,
 }
@@ -38,6 +40,26 @@ pub struct Devices {
     pub uart_high: u32,
     /// The access to a register that the devices have not answered to yet.
     pub access: Option<DeviceAccess>,
+}
+
+/// Whether the program wrote to this address.
+pub(crate) fn wrote(address: u32, access: Option<DeviceAccess>) -> bool
+    ensures { result ≡ wrote address access }
+{
+    match access {
+        Some(access) => access.is_write && access.address == address,
+        None => false,
+    }
+}
+
+/// Whether the program read from this address.
+pub(crate) fn looked_at(address: u32, access: Option<DeviceAccess>) -> bool
+    ensures { result ≡ looked_at address access }
+{
+    match access {
+        Some(access) => access.is_read && access.address == address,
+        None => false,
+    }
 }
 
 /// The word whose lowest `size` bytes are ones.
@@ -127,11 +149,16 @@ impl Devices {
         }
     }
 
-    /// Notes an access.
+    /// Notes an access. A write goes with a read of its address before it in the step.
     fn note(&mut self, address: u32, is_write: bool)
         ensures { self.new ≡ noted self.old address is_write }
     {
-        self.access = Some(DeviceAccess { address, is_write });
+        let is_read = !is_write || looked_at(address, self.access);
+        self.access = Some(DeviceAccess {
+            address,
+            is_read,
+            is_write,
+        });
     }
 }
 

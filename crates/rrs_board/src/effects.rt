@@ -3,9 +3,9 @@
 ghost use Rattle.std.specs.Prelude.{◌≡◌, ◌+◌, ◌/◌, ◌%◌, ◌^◌, ◌<◌, ◌≤◌, ◌==◌};
 ghost use Rattle.rrs_board.specs.Clint.{can_wake};
 ghost use Rattle.rrs_board.specs.Finisher.{status_of};
-ghost use Rattle.rrs_board.specs.Effects.{inputs_of, shown_word, showing, wrote, looked_at, transmits, finds_none, byte_at, uart_after, answered_access, answered, ended_with, access_event, ticked, waited, settled, event_after, arrived, waits_for_input};
+ghost use Rattle.rrs_board.specs.Effects.{inputs_of, shown_word, showing, transmits, finds_none, byte_at, uart_after, answered_access, answered, ended_with, access_event, ticked, waited, settled, event_after, arrived, waits_for_input};
 
-use crate::devices::{DeviceAccess, Devices};
+use crate::devices::{DeviceAccess, Devices, looked_at, wrote};
 use crate::uart::Uart;
 use rrs_machine::{CsrFile, Inputs, MachineAnswer};
 
@@ -28,26 +28,6 @@ pub enum BoardEvent {
 const FINISHER: u32 = 0x0010_0000;
 /// The address of the UART.
 const UART: u32 = 0x1000_0000;
-
-/// Whether the program wrote to this address.
-fn wrote(address: u32, access: Option<DeviceAccess>) -> bool
-    ensures { result ≡ wrote address access }
-{
-    match access {
-        Some(access) => access.is_write && access.address == address,
-        None => false,
-    }
-}
-
-/// Whether the program read from this address.
-fn looked_at(address: u32, access: Option<DeviceAccess>) -> bool
-    ensures { result ≡ looked_at address access }
-{
-    match access {
-        Some(access) => !access.is_write && access.address == address,
-        None => false,
-    }
-}
 
 /// Four registers of the UART from an offset on.
 fn shown_word(uart: &Uart, offset: u32) -> u32
@@ -172,17 +152,18 @@ impl Devices {
         byte_of(word, offset % 4)
     }
 
-    /// The UART after an access.
+    /// The UART after an access: after a look, then after a write.
     fn uart_after(&self, access: DeviceAccess) -> Uart
         ensures { result ≡ uart_after access self.now }
     {
         let mut uart = self.uart;
         if access.address >= UART {
             let offset = access.address - UART;
+            if access.is_read {
+                uart.look(offset);
+            }
             if access.is_write {
                 uart.write(offset, self.byte_at(offset));
-            } else {
-                uart.look(offset);
             }
         }
         uart

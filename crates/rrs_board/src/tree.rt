@@ -111,7 +111,7 @@ impl Tree {
         self.numbers(alloc, "reg", &[0])?;
         self.text(alloc, "status", "okay")?;
         self.text(alloc, "compatible", "riscv")?;
-        self.text(alloc, "riscv,isa", "rv32im")?;
+        self.text(alloc, "riscv,isa", "rv32ima")?;
         self.begin("interrupt-controller")?;
         self.numbers(alloc, "#interrupt-cells", &[1])?;
         self.property("interrupt-controller", b"")?;

@@ -28,7 +28,7 @@ fn refused<'a>(path: &'a str, file: &[u8], error: BoardError) -> Refusal<'a> {
 
 /// What the hart of the board has beside RV32IM and machine mode.
 const PROFILE: Profile = Profile {
-    atomics: false,
+    atomics: true,
     user_mode: true,
 };
 
@@ -84,7 +84,7 @@ fn hand_tree(
 }
 
 /// A board at reset, with firmware in its RAM of so many bytes, or of the usual 128 MiB: an
-/// executable, or a raw image. Its hart has user mode.
+/// executable, or a raw image. Its hart has extension A and user mode.
 ///
 /// # Errors
 ///
