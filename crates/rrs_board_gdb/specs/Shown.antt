@@ -1,7 +1,8 @@
--- How gdb is shown a board (gdb's manual, "RISC-V Features": org.gnu.gdb.riscv.csr, and "Remote
--- Serial Protocol", "Packets": p, P, m, M, X), and what it can change. The registers are x0 to x31,
--- the pc, and, from 65 on, the CSRs by their numbers. Of memory RAM is shown, and no device.
-use Rattle.std.specs.Prelude.{◌≡◌, ℕ, zero, suc, pos, ◌+◌, ◌-◌, ◌==◌, ◌++◌, nat_lt, Bool, if◌then◌else◌, List, [], drop, is_some, slice_set, codes, Option, Some, None}
+-- How gdb is shown a board (gdb's manual, "RISC-V Features": org.gnu.gdb.riscv.csr and
+-- org.gnu.gdb.riscv.virtual, and "Remote Serial Protocol", "Packets": p, P, m, M, X), and what it can
+-- change. The registers are x0 to x31, the pc, from 65 on the CSRs by their numbers, and behind these
+-- `priv`, the privilege mode. Of memory RAM is shown, and no device.
+use Rattle.std.specs.Prelude.{◌≡◌, ℕ, zero, suc, pos, ◌+◌, ◌-◌, ◌==◌, ◌&&◌, ◌++◌, nat_lt, Bool, if◌then◌else◌, List, [], drop, is_some, slice_set, codes, Option, Some, None}
 use Rattle.std.specs.Fmt.{decimal}
 use Rattle.rrs_lib.specs.declared.HartState.{HartState}
 use Rattle.rrs_lib.specs.Machine.{State, state_of}
@@ -9,7 +10,8 @@ use Rattle.rrs_memory.specs.Bytes.{ByteMap}
 use Rattle.rrs_words.specs.declared.csrs.Csr.{Csr}
 use Rattle.rrs_words.specs.declared.csrs.Profile.{Profile}
 use Rattle.rrs_words.specs.CsrNumbers.{csr_at, is_read_only}
-use Rattle.rrs_machine.specs.Csrs.{csr_value, csr_written}
+use Rattle.rrs_machine.specs.declared.csrs.Mode.TheVariants.{User, Machine}
+use Rattle.rrs_machine.specs.Csrs.{mode_number, mode_of, csr_value, csr_written}
 use Rattle.rrs_board.specs.declared.board.Board.{Board}
 use Rattle.rrs_board.specs.Registers.{ram_bytes, ram_writable, board_bytes, board_writable}
 use Rattle.rrs_board.specs.Effects.{inputs_of}
@@ -26,12 +28,18 @@ abbrev pub csr_shown : Board → Option Csr → Option ℕ
 csr_shown b None = None
 csr_shown b (Some csr) = Some (csr_value csr b.csrs (inputs_of b.memory.devices))
 
+-- gdb's number of the privilege mode, behind those of the CSRs
+abbrev pub priv : ℕ
+priv = 4161
+
 -- the register of a number
 abbrev pub shown_register : Board → ℕ → Option ℕ
 shown_register b n =
     if nat_lt n 33
     then Some (register (state_of b.hart (board_bytes b.memory) (board_writable b.memory)) n)
-    else (if nat_lt n 65 then None else csr_shown b (csr_at b.csrs.profile (n - 65)))
+    else (if nat_lt n 65 then None
+    else (if n == priv then Some (mode_number (mode_of b.csrs))
+    else csr_shown b (csr_at b.csrs.profile (n - 65))))
 
 -- a CSR is written as an instruction writes it, unless it is read only
 abbrev pub csr_changed : ℕ → Option Csr → ℕ → Board → Option Board
@@ -39,6 +47,13 @@ csr_changed number None value b = None
 csr_changed number (Some csr) value b =
     if is_read_only number then None
     else Some (record b { csrs = csr_written csr value b.csrs })
+
+-- the privilege mode becomes the one of a number, where the hart has one of this number
+abbrev pub mode_changed : ℕ → Board → Option Board
+mode_changed value b =
+    if value == 3 then Some (record b { csrs = record b.csrs { mode = Machine } })
+    else (if (value == 0) && b.csrs.profile.user_mode
+    then Some (record b { csrs = record b.csrs { mode = User } }) else None)
 
 abbrev pub hart_changed : HartState → ℕ → ℕ → HartState
 hart_changed h n value =
@@ -51,7 +66,8 @@ with_register b n value =
     if n == 0 then None
     else (if nat_lt n 33 then Some (record b { hart = hart_changed b.hart n value })
     else (if nat_lt n 65 then None
-    else csr_changed (n - 65) (csr_at b.csrs.profile (n - 65)) value b))
+    else (if n == priv then mode_changed value b
+    else csr_changed (n - 65) (csr_at b.csrs.profile (n - 65)) value b)))
 
 -- ---- RAM
 
@@ -96,3 +112,9 @@ csr_line number =
 unfoldable pub csr_lines : Profile → ℕ → List ℕ
 csr_lines p zero = []
 csr_lines p (suc n) = csr_lines p n ++ (if is_some (csr_at p n) then csr_line n else [])
+
+-- what follows them: the line of the privilege mode, and the end
+abbrev pub mode_line_and_end : List ℕ
+mode_line_and_end = codes "</feature>\n<feature name=\"org.gnu.gdb.riscv.virtual\">\n"
+    ++ codes "<reg name=\"priv\" bitsize=\"32\" regnum=\"4161\"/>\n"
+    ++ codes "</feature>\n</target>\n"

@@ -1,17 +1,21 @@
-//! The registers as gdb has them: x0 to x31, the pc, and, from 65 on, the CSRs by their numbers.
+//! The registers as gdb has them: x0 to x31, the pc, from 65 on the CSRs by their numbers, and behind
+//! these the privilege mode.
 
 ghost use Rattle.std.specs.Prelude.{◌≡◌, ◌<◌, false, true, MatchOption};
 ghost use Rattle.rrs_words.specs.CsrNumbers.{csr_at};
-ghost use Rattle.rrs_board_gdb.specs.Shown.{csr_shown, shown_register, csr_changed, hart_changed, with_register};
+ghost use Rattle.rrs_board_gdb.specs.Shown.{csr_shown, shown_register, csr_changed, mode_changed, hart_changed, with_register};
 
 use rrs_board::Board;
 use rrs_gdb::{REGISTERS, register_value};
 use rrs_lib::HartState;
-use rrs_machine::Csr;
+use rrs_machine::{Csr, Mode};
 use rrs_words::csrs::is_read_only;
 
 /// The number that gdb has for the CSR of number 0.
 pub const FIRST_CSR: u32 = 65;
+
+/// The number that gdb has for the privilege mode.
+pub const PRIV: u32 = 4161;
 
 /// The value of a CSR, as an instruction reads it.
 fn csr_of(board: &Board, csr: Option<Csr>) -> Option<u32>
@@ -32,6 +36,9 @@ pub fn value_of(board: &Board, number: u32) -> Option<u32>
     }
     if number < FIRST_CSR {
         return None;
+    }
+    if number == PRIV {
+        return Some(board.csrs.mode().number());
     }
     csr_of(board, Csr::at(board.csrs.profile, number - FIRST_CSR))
 }
@@ -62,6 +69,20 @@ fn change_numbered(board: &mut Board, number: u32, value: u32) -> bool
     change_csr(board, number, csr, value)
 }
 
+/// Changes the privilege mode to the one of a number, if the hart has it.
+fn change_mode(board: &mut Board, value: u32) -> bool
+    ensures { MatchOption (mode_changed value board.old)
+        ((result ≡ false) × (board.new ≡ board.old))
+        (λ changed. (result ≡ true) × (board.new ≡ changed)) }
+{
+    match value {
+        0 if board.csrs.profile.user_mode => board.csrs.mode = Mode::User,
+        3 => board.csrs.mode = Mode::Machine,
+        _ => return false,
+    }
+    true
+}
+
 /// Changes one of x0 to x31, or, by 32, the pc.
 fn change_hart(hart: &mut HartState, number: u32, value: u32)
     requires { number < 33 }
@@ -74,9 +95,9 @@ fn change_hart(hart: &mut HartState, number: u32, value: u32)
     }
 }
 
-/// Changes a register by its number, and returns whether there is one that can be changed: x1 to
-/// x31, the pc, or a CSR that is not read only, of which the bits that an instruction writes are
-/// changed. Nothing else changes.
+/// Changes a register by its number, and returns whether there is one that can be changed so: x1 to
+/// x31, the pc, the privilege mode to one that the hart has, or a CSR that is not read only, of which
+/// the bits that an instruction writes are changed. Nothing else changes.
 pub fn change_register(board: &mut Board, number: u32, value: u32) -> bool
     ensures { MatchOption (with_register board.old number value)
         ((result ≡ false) × (board.new ≡ board.old))
@@ -91,6 +112,9 @@ pub fn change_register(board: &mut Board, number: u32, value: u32) -> bool
     }
     if number < FIRST_CSR {
         return false;
+    }
+    if number == PRIV {
+        return change_mode(board, value);
     }
     change_numbered(board, number - FIRST_CSR, value)
 }

@@ -1,7 +1,7 @@
 //! What gdb is told of the board's registers.
 
-ghost use Rattle.std.specs.Prelude.{◌≡◌, ◌++◌, ℕ, List, OnOk, codes};
-ghost use Rattle.rrs_board_gdb.specs.Shown.{csr_in, csr_line, csr_lines};
+ghost use Rattle.std.specs.Prelude.{◌≡◌, ◌++◌, ℕ, List, OnOk};
+ghost use Rattle.rrs_board_gdb.specs.Shown.{csr_in, csr_line, csr_lines, mode_line_and_end};
 
 use crate::registers::FIRST_CSR;
 use rrs_gdb::{TARGET, cut_or_all, push_text};
@@ -19,8 +19,13 @@ const HEAD: &[u8] = b"<?xml version=\"1.0\"?>
 /// That there is no system: on Linux gdb steps by breakpoints of its own, and an interrupt would
 /// not stop at them.
 const NO_SYSTEM: &[u8] = b"<osabi>none</osabi>\n";
-/// What ends the description of a target.
-const END: &[u8] = b"</feature>\n</target>\n";
+/// The privilege mode, and what ends the description of a target.
+const MODE_AND_END: &[u8] = b"</feature>
+<feature name=\"org.gnu.gdb.riscv.virtual\">
+<reg name=\"priv\" bitsize=\"32\" regnum=\"4161\"/>
+</feature>
+</target>
+";
 
 /// The name of a CSR in the text of an instruction on it, as `csrrs x0, mstatus, x0`.
 fn name_in(text: &[u8]) -> &[u8]
@@ -66,15 +71,14 @@ fn push_csrs(profile: Profile, alloc: Global, text: &mut Vec<u8>) -> Result<(), 
 }
 
 /// Appends the description of the target: that it has no system, the registers that `rrs_gdb` has,
-/// and the CSRs
-/// of a hart with a profile.
+/// the CSRs of a hart with a profile, and the privilege mode.
 ///
 /// # Errors
 ///
 /// Out of memory.
 pub fn push_target(profile: Profile, alloc: Global, text: &mut Vec<u8>) -> Result<(), AllocError>
     ensures { OnOk result ((first : List ℕ) × (text.new.items
-        ≡ text.old.items ++ (first ++ csr_lines profile 4096 ++ codes "</feature>\n</target>\n"))) }
+        ≡ text.old.items ++ (first ++ csr_lines profile 4096 ++ mode_line_and_end))) }
 {
     push_text(text, HEAD)?;
     push_text(text, NO_SYSTEM)?;
@@ -85,5 +89,5 @@ pub fn push_target(profile: Profile, alloc: Global, text: &mut Vec<u8>) -> Resul
     )?;
     push_text(text, b"<feature name=\"org.gnu.gdb.riscv.csr\">\n")?;
     push_csrs(profile, alloc, text)?;
-    push_text(text, END)
+    push_text(text, MODE_AND_END)
 }

@@ -1,6 +1,6 @@
 # a scheduler: the timer's handler, CSRs by their names, an interrupt that waits until it is enabled
 target remote | ./rrs gdb --board scheduler.elf
-info registers pc a0 misa mtvec mstatus mie
+info registers pc a0 misa mtvec mstatus mie priv
 break start_task
 continue
 info registers mtvec mstatus mie mepc
@@ -21,6 +21,11 @@ stepi
 info registers pc mcause mepc mstatus mie
 print $cycle = 5
 print $mscratch == &frames[1]
+print $priv = 0
+maintenance flush register-cache
+info registers priv
+print $priv = 1
+print $priv = 3
 x/xw 0x2004000
 delete
 break schedule if cause == 11
