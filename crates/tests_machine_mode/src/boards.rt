@@ -88,8 +88,8 @@ fn served(
 
 /// The numbers of the registers are gdb's: a CSR has 65 and its own number. mstatus is 0x341, misa
 /// 0x342, mie 0x345, mtvec 0x346, mepc 0x382, mcause 0x383, mip 0x385, cycle 0xc41, mvendorid
-/// 0xf52.
-const PACKETS: [(&str, &str); 62] = [
+/// 0xf52. The privilege mode is 0x1041.
+const PACKETS: [(&str, &str); 63] = [
     ("?", "S05"),
     (
         "g",
@@ -101,7 +101,7 @@ const PACKETS: [(&str, &str); 62] = [
     ("p341|p342|p346", "00180000|+|00110040|+|00000000"),
     ("pc41|pf52", "00000000|+|00000000"),
     (
-        "p21|p40|p41|p1041|p|px",
+        "p21|p40|p41|p1042|p|px",
         "E16|+|E16|+|E16|+|E16|+|E16|+|E16",
     ),
     (
@@ -118,6 +118,10 @@ const PACKETS: [(&str, &str); 62] = [
     (
         "Pc41=01000000|Pf52=01000000|P0=01000000|P21=01000000",
         "E16|+|E16|+|E16|+|E16",
+    ),
+    (
+        "p1041|P1041=03000000|P1041=00000000|P1041=01000000|p1041",
+        "03000000|+|OK|+|E16|+|E16|+|03000000",
     ),
     ("P1=0102|P1|Px=01020304|p1", "E16|+|E16|+|E16|+|00000000"),
     ("G00|X80000050,1:a", "|+|"),

@@ -8,6 +8,8 @@
 #![tactic(auto)]
 
 #[cfg(test)]
+mod atomics;
+#[cfg(test)]
 mod boards;
 #[cfg(test)]
 mod csrs;
