@@ -19,6 +19,6 @@ mod target;
 
 pub use going::{DebuggedBoard, GoEnd, GoReason};
 pub use ram::{change_ram, show_ram};
-pub use registers::{FIRST_CSR, change_register, value_of};
+pub use registers::{FIRST_CSR, PRIV, change_register, value_of};
 pub use session::{BoardSession, BoardStop, answer_to, serve};
 pub use target::push_target;
