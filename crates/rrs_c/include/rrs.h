@@ -338,7 +338,7 @@ rrs_fault rrs_step_noted(rrs_hart *hart, uint32_t *words, size_t count, uint32_t
 void rrs_undo(rrs_hart *hart, uint32_t *words, size_t count, uint32_t base,
               const rrs_change *change);
 
-/* The CSRs of a hart that has machine mode, alone or with user mode: RV32IM with Zicsr, Zifencei and
+/* The CSRs of a hart that has machine mode, with more by its profile: RV32IM with Zicsr, Zifencei and
  * Zicntr, by the privileged specification 1.12. docs/MACHINE.md of the kit has the table of the CSRs.
  * {0}, which rrs_csrs_reset gives too, is a hart with machine mode alone at reset; one with more has
  * its bits in profile. A bit that is not written has no meaning here: rrs_csr_read gives it as it
@@ -357,12 +357,13 @@ typedef struct rrs_csrs {
     uint64_t minstret;      /* The instructions that retired. */
     uint32_t trapped;       /* 1 where the latest step took a trap, else 0. No CSR: the next
                              * instruction is the first of a handler. Any other number is as 0. */
-    uint32_t profile;       /* What the hart has, no CSR: bit 1 is user mode. No call changes it. */
+    uint32_t profile;       /* What the hart has, no CSR: bit 0 is extension A, and bit 1 user mode.
+                             * No call changes it. */
     uint32_t user;          /* 1 in user mode, any other number in machine mode. No CSR. Without user
                              * mode it is machine mode, whatever stands here. */
     uint32_t mcounteren;    /* CY, TM and IR, bits 0 to 2, show the counters to user mode. */
     uint32_t reserved;      /* 1 where an address is reserved, any other number where none is. */
-    uint32_t reservation;   /* The address that is reserved. No instruction here reserves one. */
+    uint32_t reservation;   /* The address that the last lr.w reserved. */
 } rrs_csrs;
 
 /* Makes the CSRs those of a hart with machine mode alone, at reset. */

@@ -38,7 +38,7 @@ pub struct RrsCsrs {
     pub minstret: u64,
     /// 1 where the latest step took a trap: the next instruction is the first of a handler.
     pub trapped: u32,
-    /// What the hart has: bit 1 is user mode. No call changes it.
+    /// What the hart has: bit 0 is extension A, and bit 1 user mode. No call changes it.
     pub profile: u32,
     /// 1 where the hart is in user mode, any other in machine mode. Without user mode it is machine
     /// mode, whatever stands here.
