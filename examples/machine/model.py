@@ -61,10 +61,23 @@ def j_type(imm, rd):
             | (imm >> 12 & 0xFF) << 12 | rd << 7 | 0x6F)
 
 
+# bits 31 to 27 of the instructions of extension A
+FUNCT5 = [2, 3, 2, 3, 2, 3, 1, 0, 4, 12, 8, 16, 20, 24, 28]
+
+
+def atomic_word(a, b, rd):
+    funct5 = FUNCT5[a // 8 % 15]
+    rs2 = 0 if funct5 == 2 and b // 128 % 8 else b % 8
+    return (funct5 << 27 | (b // 8 % 4) << 25 | rs2 << 20 | [0, 0, 6, 7][b // 32 % 4] << 15
+            | 2 << 12 | rd << 7 | 0x2F)
+
+
 def make_word(numbers, csrs):
     """An instruction, of sixteen kinds."""
     kind, a, b, c = (numbers.next() for _ in range(4))
     kind, rd, rs1, imm = kind % 16, a % 8, b % 8, c
+    if kind in (3, 4) and csrs is USER_NUMBERS:
+        return atomic_word(a, b, rd)
     if kind < 5:
         return i_type(csrs[c % 24], rs1, [1, 2, 3, 5, 6, 7][a // 8 % 6], rd, 0x73)
     if kind == 5:
@@ -97,7 +110,7 @@ class Trap(Exception):
 
 
 class Hart:
-    """A hart with its CSRs, over words at address 0. `user` says whether it has user mode."""
+    """A hart with its CSRs, over words at address 0. `user` says whether it has user mode and A."""
 
     # number -> (field, bits that are written)
     HELD = {0x300: ("mstatus", 0x88), 0x304: ("mie", 0x888), 0x305: ("mtvec", MASK & ~2),
@@ -107,7 +120,7 @@ class Hart:
     ALWAYS = {0x301: 0x40001100, 0x310: 0, 0xF11: 0, 0xF12: 0, 0xF13: 0, 0xF14: 0, 0xF15: 0}
     # with user mode
     USER_HELD = {0x300: ("mstatus", 0x221888), 0x306: ("mcounteren", 7)}
-    USER_ALWAYS = {0x301: 0x40101100, 0x30A: 0, 0x31A: 0}
+    USER_ALWAYS = {0x301: 0x40101101, 0x30A: 0, 0x31A: 0}
 
     def __init__(self, numbers, user):
         self.bytes, self.user, self.mode = bytearray(), user, 3
@@ -132,7 +145,10 @@ class Hart:
             self.mode = 0 if told % 2 == 0 else 3
             self.csr["mcounteren"] = told >> 1 & 7
             self.csr["mstatus"] |= (told >> 4 & 1) * 0x1800 | told & 0x220000
+            self.x[6] = numbers.next() % 80 * 4
+            self.x[7] = numbers.next() % 256
         self.mip = self.time = 0
+        self.reserved = MASK
 
     def read_csr(self, number):
         if self.mode == 0 and (number >> 8 & 3 or not self.csr["mcounteren"] >> (number & 31) & 1):
@@ -216,6 +232,28 @@ class Hart:
             self.x[rd] = old
         return (number, new) if writes else None
 
+    def atomic(self, word):
+        """An instruction of extension A: what rd gets."""
+        funct5, address, operand = word >> 27, self.x[word >> 15 & 31], self.x[word >> 20 & 31]
+        held, kind = self.reserved == address, 4 if funct5 == 2 else 6
+        if funct5 == 3:
+            self.reserved = MASK
+        if address % 4:
+            raise Trap(kind, address)
+        if funct5 == 3:
+            if held:
+                self.store(address, 4, operand)
+            return int(not held)
+        old = self.load(address, 4, kind + 1)
+        if funct5 == 2:
+            self.reserved = address
+            return old
+        a, b = sign(old, 32), sign(operand, 32)
+        self.store(address, 4, {
+            0: old + operand, 1: operand, 4: old ^ operand, 8: old | operand, 12: old & operand,
+            16: min(a, b), 20: max(a, b), 24: min(old, operand), 28: max(old, operand)}[funct5])
+        return old
+
     def execute(self, word):
         """Executes a word: the next pc, and the write of a CSR, if there is one."""
         opcode, rd, funct3 = word & 0x7F, word >> 7 & 31, word >> 12 & 7
@@ -247,6 +285,9 @@ class Hart:
                 return self.go((self.pc + offset) & MASK), None
         elif opcode == 0x0F and funct3 < 2:
             pass
+        elif self.user and opcode == 0x2F and funct3 == 2 and (
+                rs2 == 0 if funct7 >> 2 == 2 else funct7 >> 2 in FUNCT5):
+            result = self.atomic(word)
         elif word == 0x00000073:
             raise Trap(11 if self.mode == 3 else 8, 0)
         elif word == 0x00100073:
@@ -299,7 +340,7 @@ class Hart:
         for counter in (self.cycle, self.instret):
             yield from (counter & MASK, counter >> 32)
         if self.user:
-            yield from (self.mode, csr["mcounteren"])
+            yield from (self.mode, csr["mcounteren"], self.reserved)
         for at in range(0, len(self.bytes), 4):
             yield int.from_bytes(self.bytes[at:at + 4], "little")
 

@@ -1,6 +1,6 @@
-//! 20,000 generated programs, half of them on a hart with user mode, beside a model that is written
-//! from the specifications: `examples/machine/model.py` makes the same programs and prints the tables
-//! of these tests.
+//! 20,000 generated programs, half of them on a hart with user mode and extension A, beside a model
+//! that is written from the specifications: `examples/machine/model.py` makes the same programs and
+//! prints the tables of these tests.
 
 use crate::steps::{holds_at, step_over};
 use rrs_lib::HartState;
@@ -48,31 +48,31 @@ const NUMBERS: [u32; 24] = [
     0xb80, 0xb82, 0xb03, 0x323, 0xb9f, 0xc00, 0xc01, 0xc02, 0xc81, 0xf14, 0x180,
 ];
 
-/// The same on a hart with user mode.
+/// The same on a hart with user mode and extension A.
 const USER_CHECKSUMS: [u32; 20] = [
-    0x4b56_e505,
-    0xf8d7_d2ce,
-    0xec2f_adaa,
-    0x2ed5_1248,
-    0xcd28_5127,
-    0xbff1_1417,
-    0xf2f6_be48,
-    0x4fc0_e93e,
-    0xa605_2139,
-    0x8baa_e1fd,
-    0xe26d_b76f,
-    0xab77_4c7c,
-    0x3f9e_0bb6,
-    0x8c06_6620,
-    0x0135_c64e,
-    0x263b_1211,
-    0x1f7f_1694,
-    0xd728_294c,
-    0xea8a_2215,
-    0x3840_77c5,
+    0xa1ea_2de8,
+    0xef84_20fb,
+    0x6a89_0558,
+    0x31c7_2419,
+    0x3066_3f33,
+    0x73ba_29c0,
+    0xfc6c_ca24,
+    0x5070_3f49,
+    0x607d_adc7,
+    0xb6da_942a,
+    0x4374_49a2,
+    0x2b37_f042,
+    0x9ffa_326e,
+    0x6347_fe8d,
+    0x1706_bf03,
+    0x1194_f345,
+    0x6b1a_5819,
+    0xc360_5f37,
+    0x1695_0609,
+    0x03ab_7056,
 ];
 
-/// The CSRs of the programs on a hart with user mode.
+/// The CSRs of the programs there.
 const USER_NUMBERS: [u32; 24] = [
     0x300, 0x300, 0x300, 0x301, 0x304, 0x305, 0x306, 0x306, 0x30a, 0x31a, 0x320, 0x340, 0x341,
     0x342, 0x343, 0x344, 0xb00, 0xb02, 0xc00, 0xc01, 0xc02, 0xc80, 0xc82, 0xf14,
@@ -125,6 +125,22 @@ fn csr_word(user_mode: bool, a: u32, rs1: u32, c: u32, rd: u32) -> u32 {
     i_type(number, rs1, funct3, rd, 0x73)
 }
 
+/// What bits 31 to 27 of the instructions of extension A are; `lr.w` and `sc.w` stand there thrice.
+const FUNCT5: [u32; 15] = [2, 3, 2, 3, 2, 3, 1, 0, 4, 12, 8, 16, 20, 24, 28];
+
+/// An instruction of extension A, or a `lr.w` with an operand, which is none.
+fn atomic_word(a: u32, b: u32, rd: u32) -> u32 {
+    let funct5 = FUNCT5.get(a as usize / 8 % 15).copied().unwrap_or(0);
+    let rs1 = [0, 0, 6, 7].get(b as usize / 32 % 4).copied().unwrap_or(0);
+    let rs2 = if funct5 == 2 && b / 0x80 % 8 != 0 {
+        0
+    } else {
+        b % 8
+    };
+    let funct7 = (funct5 << 2) | (b / 8 % 4);
+    (funct7 << 25) | (rs2 << 20) | (rs1 << 15) | (2 << 12) | (rd << 7) | 0x2f
+}
+
 /// An instruction of sixteen kinds.
 fn word_of(user_mode: bool, numbers: &mut Numbers) -> u32 {
     let kind = numbers.next() % 16;
@@ -136,6 +152,7 @@ fn word_of(user_mode: bool, numbers: &mut Numbers) -> u32 {
 fn word_by(user_mode: bool, kind: u32, a: u32, b: u32, c: u32) -> u32 {
     let (rd, rs1) = (a % 8, b % 8);
     match kind {
+        3..=4 if user_mode => atomic_word(a, b, rd),
         0..=4 => csr_word(user_mode, a, rs1, c, rd),
         5 => i_type(c % 4096, rs1, 0, rd, 0x13),
         6 => ((c % 8) << 20) | (rs1 << 15) | (rd << 7) | 0x33,
@@ -194,10 +211,21 @@ fn take_mode(csrs: &mut CsrFile, numbers: &mut Numbers) {
     csrs.mstatus |= told & 0x22_0000;
 }
 
+/// Two addresses for the instructions of extension A: one aligned, and one of all.
+pub fn take_addresses(hart: &mut HartState, numbers: &mut Numbers) {
+    hart.registers[6] = numbers.next() % 80 * 4;
+    hart.registers[7] = numbers.next() % 0x100;
+}
+
+/// The address that is reserved, and past all addresses where none is.
+fn reserved(csrs: &CsrFile) -> u32 {
+    csrs.reservation.unwrap_or(u32::MAX)
+}
+
 /// The CSRs of a program.
 pub fn csrs_of(user_mode: bool, numbers: &mut Numbers) -> CsrFile {
     let mut csrs = CsrFile::with_profile(Profile {
-        atomics: false,
+        atomics: user_mode,
         user_mode,
     });
     csrs.mstatus = numbers.next() & 0x88;
@@ -271,6 +299,9 @@ fn run_program(
     let mut memory = memory_of(alloc, user_mode, numbers)?;
     let mut hart = hart_of(numbers);
     let mut csrs = csrs_of(user_mode, numbers);
+    if user_mode {
+        take_addresses(&mut hart, numbers);
+    }
     for step in 0..STEPS {
         let inputs = inputs_of(numbers, step);
         step_over(&mut memory, &mut hart, &mut csrs, &inputs);
@@ -278,7 +309,7 @@ fn run_program(
     let of_registers = with_values(checksum, &hart.registers[1..]);
     let of_hart = with_csrs(mixed(of_registers, hart.pc), &csrs);
     let of_mode = if user_mode {
-        with_values(of_hart, &[csrs.mode().number(), csrs.mcounteren])
+        with_values(of_hart, &[csrs.mode().number(), csrs.mcounteren, reserved(&csrs)])
     } else {
         of_hart
     };

@@ -2,7 +2,7 @@
 
 ghost use Rattle.std.specs.Prelude.{◌≤◌, ◌^◌};
 
-use crate::generated::{Numbers, csrs_of, hart_of, memory_of};
+use crate::generated::{Numbers, csrs_of, hart_of, memory_of, take_addresses};
 use crate::pulses::Pulse;
 use crate::steps::{QUIET, holds_at};
 use rrs_fast::CachedMemory;
@@ -249,13 +249,17 @@ fn in_space(alloc: Global, memory: VecMemory) -> Result<MemorySpace<VecMemory>, 
     }
 }
 
-/// The memory and the machine of a generated program. Each second hart has user mode.
+/// The memory and the machine of a generated program. Each second hart has user mode and
+/// extension A.
 fn generated(alloc: Global, seed: u32, pulse: Pulse) -> Result<(VecMemory, Machine), AllocError> {
     let mut numbers = Numbers { state: seed };
     let user_mode = seed % 2 == 1;
     let memory = memory_of(alloc, user_mode, &mut numbers)?;
-    let hart = hart_of(&mut numbers);
+    let mut hart = hart_of(&mut numbers);
     let csrs = csrs_of(user_mode, &mut numbers);
+    if user_mode {
+        take_addresses(&mut hart, &mut numbers);
+    }
     Ok((memory, Machine { hart, csrs, pulse }))
 }
 
