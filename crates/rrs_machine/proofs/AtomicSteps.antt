@@ -6,8 +6,8 @@ use Rattle.rrs_instruction.specs.declared.instruction_formats.IType.{IType}
 use Rattle.rrs_instruction.specs.declared.instruction_formats.RType.{RType}
 use Rattle.rrs_instruction.specs.Encodings.{Fields, R}
 use Rattle.rrs_instruction.proofs.Places.{same_fields_of}
-use Rattle.rrs_memory.specs.declared.MemAccessSize.TheVariants.{Word}
-use Rattle.rrs_memory.specs.Bytes.{little_endian, all_writable}
+use Rattle.rrs_lib.specs.declared.MemAccessSize.TheVariants.{Word}
+use Rattle.rrs_lib.specs.Bytes.{little_endian, all_writable}
 use Rattle.rrs_lib.specs.Machine.{State, reg, put}
 use Rattle.rrs_lib.specs.Steps.{StepAnswer, LastIsRegister, next_word, cleared}
 use Rattle.rrs_lib.specs.Accesses.{Access, read_in, write_in}
