@@ -1,7 +1,7 @@
 //! Instructions of extension A, over a memory and on a device.
 
-use crate::steps::step_over;
-use rrs_board::{Board, BoardError, BoardEvent};
+use crate::steps::{QUIET, step_over};
+use rrs_board::{Board, BoardEvent};
 use rrs_lib::HartState;
 use rrs_lib::memories::VecMemory;
 use rrs_machine::{CsrFile, Exception, MachineAnswer, Profile};
@@ -33,7 +33,7 @@ fn left_by(
     hart.registers[7] = 5;
     let mut csrs = CsrFile::with_profile(profile(atomics));
     csrs.reservation = reservation;
-    let answer = step_over(&mut memory, &mut hart, &mut csrs, &crate::steps::QUIET);
+    let answer = step_over(&mut memory, &mut hart, &mut csrs, &QUIET);
     let stored = memory.mem.get(1).copied().unwrap_or(0);
     Ok((answer, hart.registers[5], stored, csrs.reservation))
 }
