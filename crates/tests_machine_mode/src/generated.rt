@@ -309,7 +309,10 @@ fn run_program(
     let of_registers = with_values(checksum, &hart.registers[1..]);
     let of_hart = with_csrs(mixed(of_registers, hart.pc), &csrs);
     let of_mode = if user_mode {
-        with_values(of_hart, &[csrs.mode().number(), csrs.mcounteren, reserved(&csrs)])
+        with_values(
+            of_hart,
+            &[csrs.mode().number(), csrs.mcounteren, reserved(&csrs)],
+        )
     } else {
         of_hart
     };
