@@ -22,5 +22,5 @@ pub use files::Files;
 pub use folder::{Change, Folder, How, Moment, NameChange, Status};
 pub use host_folder::HostFolder;
 pub use requests::FileRequest;
-pub use running::execute_with_files;
+pub use running::{execute_below, execute_with_files};
 pub use serving::WithFiles;

@@ -6,15 +6,16 @@ ghost use Rattle.rrs_elf.specs.declared.errors.ElfError.{ElfError};
 ghost use Rattle.rrs_elf.specs.Refusals.{first_refusal, checks};
 ghost use Rattle.rrs_exec.specs.Images.{AreLong, memory_refusal};
 ghost use Rattle.rrs_exec.specs.ProcessMemories.{process_bytes, process_writable};
-ghost use Rattle.rrs_files.specs.Runs.{RunsImageWithFiles, RunsWithFiles};
+ghost use Rattle.rrs_files.specs.Runs.{RunsBelow, RunsFilesBelow, RunsImageWithFiles, RunsWithFiles, ServesImage};
 
+use crate::files::Files;
 use crate::folder::Folder;
 use crate::serving::WithFiles;
 use rrs_exec::{
     DECODED_WORDS, Image, ImageError, InPieces, LoadedProcess, ProcessEnd, ProcessMemory, Progress,
     ProtectedMemory, load_process, started,
 };
-use rrs_fast::{CachedMemory, OwnCache, ServedEnd, run_served};
+use rrs_fast::{CachedMemory, Environment, OwnCache, ServedEnd, run_served};
 use rrs_lib::instruction_executor::InstructionExecutor;
 use rrs_linux::{Heap, Linux};
 use std::alloc::Global;
@@ -54,6 +55,59 @@ pub fn execute_with_files<R: Read, W: Write, E: Write, F: Folder, P: Progress>(
     Ok(run_image(image, memory, limit, environment, progress))
 }
 
+/// Runs a file's bytes as `execute_process` of `rrs_exec` does, with these files. They are closed at
+/// the end. It is `execute_with_files` for who has the process and the files apart, but its clauses
+/// do not say what the process is after a run.
+///
+/// # Errors
+///
+/// Those of `execute_process`. No step is made then, and the process is as it was.
+pub fn execute_below<R: Read, W: Write, E: Write, F: Folder + Drop, P: Progress>(
+    alloc: Global,
+    file: &[u8],
+    arguments: &[String],
+    wanted: u64,
+    limit: u64,
+    process: &mut Linux<R, W, E>,
+    files: Files<F>,
+    progress: &mut P,
+) -> Result<ProcessEnd, ImageError>
+    ensures executed { IfOk result (λ end. RunsBelow R.remaining W.contents E.contents F.did
+        file.now (map string_bytes arguments.now) wanted limit
+        process.old files end.steps end.pc end.ending) }
+    ensures ceiling { IsExecutable file.now
+        → IfSome (memory_refusal file.now wanted) (λ error. result ≡ Err error) }
+    ensures kept { OnErr result (process.new ≡ process.old) }
+    ensures refused { (refusal : ElfError) → first_refusal (checks file.now) ≡ Err refusal
+        → IfErr result (λ error. error ≡ ImageError.Elf refusal) }
+    ensures long { IsExecutable file.now → memory_refusal file.now wanted ≡ None
+        → AreLong file.now (map string_bytes arguments.now) wanted
+        → result ≡ Err ImageError.LongArguments }
+    ensures otherwise { IsExecutable file.now → memory_refusal file.now wanted ≡ None
+        → (AreLong file.now (map string_bytes arguments.now) wanted → ⊥)
+        → IfErr result (λ error. error ≡ ImageError.OutOfMemory) }
+{
+    let LoadedProcess { image, memory } = load_process(alloc, file, arguments, wanted)?;
+    process.heap = Heap::new(image.layout.heap_start, image.layout.heap_end);
+    Ok(run_below(image, memory, limit, process, files, progress))
+}
+
+/// Runs a process whose memory is filled, and whose heap is set, with these files.
+fn run_below<S: Environment, F: Folder + Drop, P: Progress>(
+    image: Image,
+    memory: ProcessMemory,
+    limit: u64,
+    process: &mut S,
+    files: Files<F>,
+    progress: &mut P,
+) -> ProcessEnd
+    ensures { RunsFilesBelow S.serves F.did image (process_bytes memory) (process_writable memory)
+        limit process.old files result.steps result.pc result.ending }
+{
+    let mut with_files = WithFiles { process, files };
+    serve_image(image, memory, limit, &mut with_files, progress)
+}
+
 /// Runs a process whose memory is filled.
 fn run_image<R: Read, W: Write, E: Write, F: Folder, P: Progress>(
     image: Image,
@@ -66,14 +120,28 @@ fn run_image<R: Read, W: Write, E: Write, F: Folder, P: Progress>(
         (process_bytes memory) (process_writable memory) limit
         environment.old environment.new result.steps result.pc result.ending }
 {
+    environment.process.heap = Heap::new(image.layout.heap_start, image.layout.heap_end);
+    serve_image(image, memory, limit, environment, progress)
+}
+
+/// Runs a process whose memory is filled, with what serves its calls.
+fn serve_image<S: Environment, P: Progress>(
+    image: Image,
+    memory: ProcessMemory,
+    limit: u64,
+    environment: &mut S,
+    progress: &mut P,
+) -> ProcessEnd
+    ensures { ServesImage S.serves image (process_bytes memory) (process_writable memory)
+        limit environment.old environment.new result.steps result.pc result.ending }
+{
     let Image {
-        layout,
+        layout: _,
         entry,
         stack_pointer,
         stack: _,
         marks,
     } = image;
-    environment.process.heap = Heap::new(layout.heap_start, layout.heap_end);
     let mut hart = started(entry, stack_pointer);
     let protected = ProtectedMemory { memory, marks };
     let mut cached: CachedMemory<_, DECODED_WORDS> = CachedMemory::new(protected);
