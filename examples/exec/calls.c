@@ -95,7 +95,8 @@ __attribute__((weak)) clock_t times(struct tms *times)
     return fail(ENOSYS);
 }
 
-// There are no files, and the streams have no positions.
+// A program without library.c has no files, and its streams have no positions.
+#ifndef WITH_LIBRARY
 int open(const char *path, int flags, ...)
 {
     (void)path, (void)flags;
@@ -125,6 +126,7 @@ off_t lseek(int fd, off_t offset, int from)
     (void)fd, (void)offset, (void)from;
     return fail(ESPIPE);
 }
+#endif
 
 // picolibc leaves the standard streams to the program: these read and write by the calls above.
 // Standard input is read a buffer at a time, standard output is written a line at a time, and

@@ -69,6 +69,87 @@ static void *none(int error)
     return NULL;
 }
 
+// Files, which are served with --files.
+
+// picolibc has other numbers than Linux for the flags of open.
+static const int linux_flags[][2] = {
+    {O_CREAT, 0x40}, {O_EXCL, 0x80}, {O_TRUNC, 0x200}, {O_APPEND, 0x400}, {O_NONBLOCK, 0x800},
+    {O_DIRECTORY, 0x10000}, {O_NOFOLLOW, 0x20000}, {O_CLOEXEC, 0x80000},
+};
+
+int open(const char *path, int flags, ...)
+{
+    va_list more;
+    va_start(more, flags);
+    int mode = flags & O_CREAT ? va_arg(more, int) : 0;
+    va_end(more);
+    int of_linux = flags & O_ACCMODE;
+    for (size_t i = 0; i < sizeof linux_flags / sizeof *linux_flags; i++) {
+        of_linux |= flags & linux_flags[i][0] ? linux_flags[i][1] : 0;
+    }
+    return call(56, HERE, (long)path, of_linux, mode, 0);
+}
+
+int unlink(const char *path)
+{
+    return call(35, HERE, (long)path, 0, 0, 0);
+}
+
+// struct stat64 of 32 bits, in words.
+static int told(long answer, const unsigned *words, struct stat *status)
+{
+    if (answer < 0) {
+        return -1;
+    }
+    memset(status, 0, sizeof *status);
+    status->st_dev = words[0];
+    status->st_ino = words[2];
+    status->st_mode = words[4];
+    status->st_nlink = words[5];
+    status->st_uid = words[6];
+    status->st_gid = words[7];
+    status->st_size = words[12];
+    status->st_blksize = words[14];
+    status->st_blocks = words[16];
+    status->st_atime = words[18];
+    status->st_mtime = words[20];
+    status->st_ctime = words[22];
+    return 0;
+}
+
+int stat(const char *restrict path, struct stat *restrict status)
+{
+    unsigned words[26];
+    return told(call(79, HERE, (long)path, (long)words, 0, 0), words, status);
+}
+
+int lstat(const char *restrict path, struct stat *restrict status)
+{
+    unsigned words[26];
+    return told(call(79, HERE, (long)path, (long)words, 0x100, 0), words, status);
+}
+
+int fstat(int fd, struct stat *status)
+{
+    unsigned words[26];
+    return told(call(80, fd, (long)words, 0, 0, 0), words, status);
+}
+
+off_t lseek(int fd, off_t offset, int from)
+{
+    long long position;
+    return call(62, fd, (long long)offset >> 32, offset, (long)&position, from) < 0 ? -1 : position;
+}
+
+ssize_t pread(int fd, void *bytes, size_t size, off_t from)
+{
+    return call(67, fd, (long)bytes, size, from, (long long)from >> 32);
+}
+ssize_t pwrite(int fd, const void *bytes, size_t size, off_t from)
+{
+    return call(68, fd, (long)bytes, size, from, (long long)from >> 32);
+}
+
 // Paths.
 int access(const char *path, int mode) { return call(48, HERE, (long)path, mode, 0, 0); }
 int chdir(const char *path) { return call(49, (long)path, 0, 0, 0, 0); }
@@ -105,9 +186,6 @@ char *getcwd(char *bytes, size_t size)
 {
     return call(17, (long)bytes, size, 0, 0, 0) < 0 ? NULL : bytes;
 }
-
-// There are no links.
-int lstat(const char *restrict path, struct stat *restrict status) { return stat(path, status); }
 
 static int set_times(const char *path, long long read, long long written)
 {

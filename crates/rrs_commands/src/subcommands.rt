@@ -64,18 +64,21 @@ const EXECUTE: Subcommand = Subcommand {
     task: Task::Execute,
     command: Command {
         name: "rrs exec",
-        usage: "rrs exec [--limit STEPS] [--memory BYTES] [--clock fixed] [--raw] PROGRAM [ARGUMENT] ..",
+        usage: "rrs exec [--limit STEPS] [--memory BYTES] [--files FOLDER | --files-read-only FOLDER]
+    [--clock fixed] [--raw] PROGRAM [ARGUMENT] ..",
     },
     summary: "runs a program that makes system calls of Linux",
     help: "Runs PROGRAM, an ELF executable for RV32IM, as a process of Linux with these
 ARGUMENTs: in a memory of 256 MiB, or of what it needs up to 1 GiB (--memory, up to
 4G), with its heap after its segments, its stack at the end, and a gap between them;
 code and constants are read-only. It makes at most STEPS steps, of which each system
-call is one, or any number. The program has standard input, output and error. A fault
-is told with its pc. Options stand before PROGRAM: the words after it are the
-program's own. With --clock fixed its clocks stand at 0, so that each run is the
-same. With --raw the file's bytes stand at address 0 of 1 MiB and sp at its end, and
-there are no ARGUMENTs.
+call is one, or any number. The program has standard input, output and error. With
+--files it also has the files below FOLDER, which is its root and where it is, and
+with --files-read-only it has them and can't change them. With --clock fixed its
+clocks stand at 0, so that each run is the same. A fault is told with its pc. Options
+stand before PROGRAM: the words after it are the program's own. With --raw the file's
+bytes stand at address 0 of 1 MiB and sp at its end, and there are no ARGUMENTs and
+no files.
 
 Status: the program's own; 124 at the limit; 125 where it can't be run; 128 and
 the number of a signal for a fault: 132 illegal instruction, 133 breakpoint,

@@ -5,7 +5,7 @@ use Rattle.rrs_run_commands.specs.declared.options.Task.TheVariants.{Run, Execut
 use Rattle.rrs_run_commands.specs.declared.options.Switch.{Switch}
 use Rattle.rrs_run_commands.specs.declared.options.Switch.TheVariants.{Quiet, Raw, Annotate, Gnu, Listed, Rars, Anywhere}
 use Rattle.rrs_run_commands.specs.declared.options.Setting.{Setting}
-use Rattle.rrs_run_commands.specs.declared.options.Setting.TheVariants.{Limit, Memory, From, Output, Callgrind, Input, Clock, Tree, Append, Text, Data, Executable}
+use Rattle.rrs_run_commands.specs.declared.options.Setting.TheVariants.{Limit, Memory, From, Output, Callgrind, Input, Clock, Files, ReadFiles, Tree, Append, Text, Data, Executable}
 
 -- ---- options without a value
 
@@ -41,6 +41,8 @@ setting_word Output = codes "--output"
 setting_word Callgrind = codes "--callgrind"
 setting_word Input = codes "--input"
 setting_word Clock = codes "--clock"
+setting_word Files = codes "--files"
+setting_word ReadFiles = codes "--files-read-only"
 setting_word Tree = codes "--dtb"
 setting_word Append = codes "--append"
 setting_word Text = codes "-Ttext"
@@ -69,6 +71,8 @@ has_setting Cover Callgrind = true
 has_setting Board Input = true
 has_setting Debug Input = true
 has_setting DebugBoard Input = true
+has_setting Execute Files = true
+has_setting Execute ReadFiles = true
 has_setting Board Tree = true
 has_setting DebugBoard Tree = true
 has_setting Board Append = true

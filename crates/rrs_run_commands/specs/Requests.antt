@@ -1,7 +1,8 @@
 -- What the words after a subcommand of `rrs` ask for. The words are lists of bytes.
 --
 --   rrs run [--quiet] FILE LIMIT
---   rrs exec [--limit STEPS] [--memory BYTES] [--clock fixed] [--raw] PROGRAM [ARGUMENT] ..
+--   rrs exec [--limit STEPS] [--memory BYTES] [--files FOLDER | --files-read-only FOLDER]
+--       [--clock fixed] [--raw] PROGRAM [ARGUMENT] ..
 --   rrs trace [--limit STEPS] [--memory BYTES] [--clock fixed] [--from ADDRESS|SYMBOL]
 --       [--output FILE] PROGRAM [ARGUMENT] ..
 --   rrs cover [--limit STEPS] [--memory BYTES] [--clock fixed] [--annotate] [--callgrind FILE]
@@ -27,7 +28,7 @@ use Rattle.rrs_run_commands.specs.declared.options.Task.TheVariants.{Run, Execut
 use Rattle.rrs_run_commands.specs.declared.options.Switch.{Switch}
 use Rattle.rrs_run_commands.specs.declared.options.Switch.TheVariants.{Quiet, Raw, Annotate, Gnu, Listed, Rars, Anywhere}
 use Rattle.rrs_run_commands.specs.declared.options.Setting.{Setting}
-use Rattle.rrs_run_commands.specs.declared.options.Setting.TheVariants.{Limit, Memory, From, Output, Callgrind, Input, Clock, Tree, Append, Text, Data, Executable}
+use Rattle.rrs_run_commands.specs.declared.options.Setting.TheVariants.{Limit, Memory, From, Output, Callgrind, Input, Clock, Files, ReadFiles, Tree, Append, Text, Data, Executable}
 use Rattle.rrs_run_commands.specs.declared.refusal.Mistake.{Mistake}
 use Rattle.rrs_run_commands.specs.declared.refusal.Mistake.TheVariants as Mistake
 use Rattle.rrs_run_commands.specs.declared.requests.Form.{Form}
@@ -53,6 +54,8 @@ pub record Wanted : Type 0 where
   pub output : Option (List ℕ)
   pub callgrind : Option (List ℕ)
   pub input : Option (List ℕ)
+  pub folder : Option (List ℕ)
+  pub read_only : Bool
   pub tree : Option (List ℕ)
   pub append : Option (List ℕ)
   pub file : Option (List ℕ)
@@ -77,6 +80,8 @@ unasked task = record {
   output = None;
   callgrind = None;
   input = None;
+  folder = None;
+  read_only = false;
   tree = None;
   append = None;
   file = None;
@@ -101,6 +106,8 @@ wanted_of request = record {
   output = option_map (λ path. path.now) request.output;
   callgrind = option_map (λ path. path.now) request.callgrind;
   input = option_map (λ path. path.now) request.input;
+  folder = option_map (λ path. path.now) request.folder;
+  read_only = request.is_read_only;
   tree = option_map (λ path. path.now) request.tree;
   append = option_map (λ text. text.now) request.append;
   file = option_map (λ path. path.now) request.file;
@@ -159,6 +166,8 @@ Sets Board Input value old new =
 Sets task Input value old new = new ≡ record old { input = Some value }
 Sets task Clock value old new =
     (value ≡ codes "fixed") × (new ≡ record old { clock_fixed = true })
+Sets task Files value old new = new ≡ record old { folder = Some value; read_only = false }
+Sets task ReadFiles value old new = new ≡ record old { folder = Some value; read_only = true }
 Sets task Tree value old new = new ≡ record old { tree = Some value }
 Sets task Append value old new = new ≡ record old { append = Some value }
 Sets task Text value old new =
@@ -181,6 +190,8 @@ RefusesValue task Callgrind value fault = ⊥
 RefusesValue Board Input value fault = (value ≡ codes "polled" → ⊥) × (fault ≡ Wrong Input value)
 RefusesValue task Input value fault = ⊥
 RefusesValue task Clock value fault = (value ≡ codes "fixed" → ⊥) × (fault ≡ Wrong Clock value)
+RefusesValue task Files value fault = ⊥
+RefusesValue task ReadFiles value fault = ⊥
 RefusesValue task Tree value fault = ⊥
 RefusesValue task Append value fault = ⊥
 RefusesValue task Text value fault =

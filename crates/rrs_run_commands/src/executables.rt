@@ -5,13 +5,14 @@ ghost use Rattle.rrs_elf.specs.Executables.{IsExecutable};
 ghost use Rattle.rrs_exec.specs.Images.{needed_of};
 ghost use Rattle.rrs_run_commands.specs.Options.{usual_memory, most_unasked};
 
-use crate::files::read_program;
+use crate::files::{read_program, refused_by_host};
 use crate::options::{MOST_UNASKED, Task, usual_memory};
 use crate::refusal::{Refusal, no_image};
 use crate::requests::Request;
 use rrs_elf::Executable;
 use rrs_exec::{ProcessEnd, Progress, execute_process, needed_memory};
 use rrs_fast::Ending;
+use rrs_files::{Descriptors, Files as ProgramFiles, HostFolder, execute_below};
 use rrs_lib::instruction_executor::InstructionException;
 use rrs_linux::Linux;
 use rrs_reports::{SHOWN_BYTES, ShownName};
@@ -55,21 +56,57 @@ pub fn execute_executable<
     progress: &mut P,
 ) -> Result<Ending, Refusal<'a>> {
     let file = read_program(rt, request.path())?;
-    let run = execute_process(
-        rt.alloc(),
-        &file,
-        request.words,
-        memory_for(&file, request.memory),
-        request.limit,
-        environment,
-        progress,
-    );
+    let wanted = memory_for(&file, request.memory);
+    let run = match request.folder {
+        None => execute_process(
+            rt.alloc(),
+            &file,
+            request.words,
+            wanted,
+            request.limit,
+            environment,
+            progress,
+        ),
+        Some(path) => {
+            let files = files_below(rt, path, request.is_read_only)?;
+            execute_below(
+                rt.alloc(),
+                &file,
+                request.words,
+                wanted,
+                request.limit,
+                environment,
+                files,
+                progress,
+            )
+        }
+    };
     match run {
         Ok(end) => {
             tell(rt, "rrs exec", &file, &end);
             Ok(end.ending)
         }
         Err(error) => Err(no_image(request.path(), &file, error)),
+    }
+}
+
+/// The files below a folder, of which none is open.
+///
+/// # Errors
+///
+/// `Refusal::File` where the host can't find the folder, or it is none; out of memory as a failure.
+fn files_below<'h, 'a, H: Files + AllocGlobal>(
+    rt: &'h H,
+    path: &'a str,
+    is_read_only: bool,
+) -> Result<ProgramFiles<HostFolder<'h, 'a, H>>, Refusal<'a>> {
+    match HostFolder::new(rt, path) {
+        Ok(folder) => Ok(ProgramFiles {
+            folder,
+            descriptors: Descriptors::NONE,
+            is_read_only,
+        }),
+        Err(error) => Err(refused_by_host(path, &error)),
     }
 }
 

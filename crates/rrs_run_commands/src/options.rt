@@ -66,6 +66,10 @@ pub enum Setting {
     Input,
     /// `--clock`, with `fixed`.
     Clock,
+    /// `--files`, with a path.
+    Files,
+    /// `--files-read-only`, with a path.
+    ReadFiles,
     /// `--dtb`, with a path.
     Tree,
     /// `--append`, with a text.
@@ -79,7 +83,7 @@ pub enum Setting {
 }
 
 /// The words of all options.
-pub static WORDS: [&str; 19] = [
+pub static WORDS: [&str; 21] = [
     "--quiet",
     "--raw",
     "--annotate",
@@ -94,6 +98,8 @@ pub static WORDS: [&str; 19] = [
     "--callgrind",
     "--input",
     "--clock",
+    "--files",
+    "--files-read-only",
     "--dtb",
     "--append",
     "-Ttext",
@@ -131,6 +137,8 @@ fn setting_named(name: &str) -> Option<Setting>
         "--callgrind" => Some(Setting::Callgrind),
         "--input" => Some(Setting::Input),
         "--clock" => Some(Setting::Clock),
+        "--files" => Some(Setting::Files),
+        "--files-read-only" => Some(Setting::ReadFiles),
         "--dtb" => Some(Setting::Tree),
         "--append" => Some(Setting::Append),
         "-Ttext" => Some(Setting::Text),
@@ -175,6 +183,7 @@ fn has_setting(task: Task, setting: Setting) -> bool
         Setting::Output => matches!(task, Task::Trace | Task::Cover),
         Setting::Callgrind => matches!(task, Task::Cover),
         Setting::Input => matches!(task, Task::Board | Task::Debug | Task::DebugBoard),
+        Setting::Files | Setting::ReadFiles => matches!(task, Task::Execute),
         Setting::Tree | Setting::Append => matches!(task, Task::Board | Task::DebugBoard),
         Setting::Text | Setting::Data | Setting::Executable => matches!(task, Task::Assemble),
     }

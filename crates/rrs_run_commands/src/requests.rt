@@ -60,6 +60,10 @@ pub struct Request<'a> {
     pub callgrind: Option<&'a str>,
     /// The path of the file that is the input of what is debugged: `--input`.
     pub input: Option<&'a str>,
+    /// The path of the folder whose files a program has: `--files`, and `--files-read-only`.
+    pub folder: Option<&'a str>,
+    /// Whether the program may only read them: `--files-read-only`.
+    pub is_read_only: bool,
     /// The path of the device tree that a board hands over: `--dtb`.
     pub tree: Option<&'a str>,
     /// The arguments for the kernel in the board's own device tree: `--append`.
@@ -99,6 +103,8 @@ fn unasked<'a>(task: Task) -> Request<'a>
         output: None,
         callgrind: None,
         input: None,
+        folder: None,
+        is_read_only: false,
         tree: None,
         append: None,
         file: None,
@@ -301,6 +307,14 @@ fn set<'a>(
         },
         Setting::Clock if value == "fixed" => request.has_fixed_clock = true,
         Setting::Clock => return Err(Mistake::Wrong(setting, value)),
+        Setting::Files => {
+            request.folder = Some(value);
+            request.is_read_only = false;
+        }
+        Setting::ReadFiles => {
+            request.folder = Some(value);
+            request.is_read_only = true;
+        }
         Setting::Tree => request.tree = Some(value),
         Setting::Append => request.append = Some(value),
         Setting::Text => match address_of(value) {
