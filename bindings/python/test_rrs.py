@@ -679,6 +679,28 @@ class Faces(Counted):
         self.assertEqual((outcome.cause, seen.mode, csrs.user, csrs.profile), (8, 0, 0, 2))
         self.assertEqual((csrs.write(0x300, 0x1800), csrs.read(0x300)), (True, 0x1800))
         self.assertEqual((csrs.write(0x300, 0x0800), csrs.read(0x300)), (True, 0x1800))
+
+    def test_csrs_with_extension_a(self):
+        # amoadd.w x5, x6, (x7); lr.w x5, (x7); sc.w x5, x6, (x7); sc.w x5, x6, (x7)
+        program = [0x0063A2AF, 0x1003A2AF, 0x1863A2AF, 0x1863A2AF, 40]
+        machine, csrs = Machine(program), rrs.Csrs()
+        outcome, seen = machine.machine_step(csrs)
+        self.assertEqual((outcome.cause, outcome.value), (2, program[0]))
+        machine, csrs.profile = Machine(program), 1
+        machine.registers[6], machine.registers[7] = 2, 16
+        self.assertEqual(csrs.read(0x301), 0x40001101)
+        for value, memory, reserved, access in (
+            (40, 42, 0, (16, 15, 15, 40, 42)),
+            (42, 42, 1, (16, 15, 0, 42, 0)),
+            (0, 2, 0, (16, 0, 15, 0, 2)),
+            (1, 2, 0, (0, 0, 0, 0, 0)),
+        ):
+            outcome, seen = machine.machine_step(csrs)
+            self.assertEqual((outcome.kind, machine.registers[5]), (rrs.OutcomeKind.RETIRED, value))
+            self.assertEqual((machine.memory[4], csrs.reserved), (memory, reserved))
+            record = seen.retired
+            self.assertEqual((record.mem_addr, record.mem_rmask, record.mem_wmask,
+                              record.mem_rdata, record.mem_wdata), access)
         machine = Machine([0x13])
         for call in (lambda: setattr(csrs, "mie", 2**32), lambda: setattr(csrs, "mcycle", -1),
                      lambda: csrs.read(2**32), lambda: csrs.write(0, 2**32),
