@@ -18,6 +18,12 @@ SITES = (
         "As for a register that is read.",
     ),
     (
+        "rrs_files/src/host_folder.rt",
+        "str::from_utf8(path)",
+        "core::str::from_utf8(path)",
+        "The crates are for Rust 1.85, in which `str` itself has no such function.",
+    ),
+    (
         "tests_assembler/src/expansions.rt",
         "Result<Program, SourceFault>",
         "Result<Program<'_>, SourceFault>",
