@@ -266,8 +266,8 @@ class Kit {
     return this.u32[this.fault / 4];
   }
 
-  /** The number of the row of a word, 1 to 48, or 0, and its fields: registers, shift amount, and
-   * immediate, which is signed. */
+  /** The number of the row of a word, 1 to 48, one above the table, or 0, and its fields: registers,
+   * shift amount, and immediate, which is signed. */
   decode(word) {
     this.exports.rrs_decode(this.addresses.instruction, word);
     const { row, rd, rs1, rs2, shamt, imm } = LAYOUT.instruction;
@@ -285,7 +285,7 @@ class Kit {
     return String.fromCharCode(...this.u8.subarray(this.text, this.text + length));
   }
 
-  /** The names of the instructions, in the order of the table. */
+  /** The names of the instructions, in the order of the table, and of those above it. */
   instructionNames() {
     const names = [];
     for (let row = 1; ; row++) {

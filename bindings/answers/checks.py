@@ -13,6 +13,13 @@ from questions import EDGES, ROWS, hexed
 ROW_NAMES = """add sub sll slt sltu xor srl sra or and addi slli slti sltiu xori srli srai ori andi lui
 auipc beq bne blt bltu bge bgeu lb lbu lh lhu lw sb sh sw jal jalr mul mulh mulhu mulhsu div divu rem
 remu fence ecall ebreak""".split()
+# The instructions above the table, numbered from 49 on: the word of each without rd, rs1, rs2 and the
+# number of a CSR, and which of these it has, by the manual's listings of Zicsr, Zifencei and A.
+LAYER_NAMES = """csrrw csrrs csrrc csrrwi csrrsi csrrci mret wfi fence.i lr.w sc.w amoswap.w amoadd.w
+amoxor.w amoand.w amoor.w amomin.w amomax.w amominu.w amomaxu.w""".split()
+LAYERS = [*((funct3 << 12 | 0x73, "csr") for funct3 in (1, 2, 3, 5, 6, 7)), (0x30200073, ""),
+          (0x10500073, ""), (0x100F, "csr"), (0x1000202F, "lr"),
+          *((funct5 << 27 | 0x202F, "amo") for funct5 in (3, 1, 0, 4, 12, 8, 16, 20, 24, 28))]
 REGISTERS = ["zero", "ra", "sp", "gp", "tp", "t0", "t1", "t2", "s0", "s1",
              *(f"a{n}" for n in range(8)), *(f"s{n}" for n in range(2, 12)), "t3", "t4", "t5", "t6"]
 FAULTS = ["no exception", "illegal instruction", "fetch access fault", "load access fault",
@@ -26,11 +33,33 @@ NO_CAUSE = 2**32 - 1
 
 
 def names():
-    for kind, table in (("row", [None, *ROW_NAMES]), ("fault", FAULTS), ("register", REGISTERS),
+    for kind, table in (("row", [None, *ROW_NAMES, *LAYER_NAMES]), ("fault", FAULTS), ("register", REGISTERS),
                         ("field", ["same", *COMPARED])):
         for number in [*range(len(table) + 2), 2**31, 2**32 - 1]:
             yield f"name {kind} {number}", (table + [None] * 2)[number] or "none" \
                 if number < len(table) else "none"
+
+
+def layers():
+    """The fields of words above the table, and words beside them that are none."""
+    draw = random.Random(68)
+    for row, (fixed, fields) in enumerate(LAYERS, 49):
+        for _ in range(4):
+            rd, rs1, high = draw.randrange(32), draw.randrange(32), draw.randrange(4096)
+            rs2, order = high % 32, high // 32 % 4
+            if fields == "csr":
+                word = fixed | high << 20 | rs1 << 15 | rd << 7
+                answer = f"{row} rd={rd} rs1={rs1} rs2=0 shamt=0 imm={high}"
+            elif fields == "":
+                word, answer = fixed, f"{row} rd=0 rs1=0 rs2=0 shamt=0 imm={fixed >> 20}"
+            else:
+                rs2 = 0 if fields == "lr" else rs2
+                word = fixed | order << 25 | rs2 << 20 | rs1 << 15 | rd << 7
+                answer = f"{row} rd={rd} rs1={rs1} rs2={rs2} shamt=0 imm={order}"
+            yield f"fields {hexed(word)}", answer
+    # a wfi with rd, an lr.w with rs2, amoadd.d, funct5 5, and funct3 4 and 0 of SYSTEM
+    for word in (0x105000F3, 0x1010202F, 0x0000302F, 0x2800202F, 0x00004073, 0x30200173):
+        yield f"fields {hexed(word)}", "none"
 
 
 def causes():
@@ -301,7 +330,7 @@ def elfs():
 
 def main():
     which = ("questions", "answers").index(sys.argv[1])
-    for kind in (names, causes, comparisons, elfs):
+    for kind in (names, layers, causes, comparisons, elfs):
         for pair in kind():
             print(pair[which])
 

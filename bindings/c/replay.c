@@ -168,7 +168,7 @@ static int answer_word(const char **at) {
     if (take(at, "decode ")) {
         uint32_t word = (uint32_t)number(at), row = rrs_decode(word).row;
         size_t length = text_of(word, 0, text);
-        if (row == 0) printf("none");
+        if (row == 0 || row > RRS_ROW_EBREAK) printf("none");
         else printf("%u %.*s", row, length == 0 ? 0 : (int)strcspn(text, " "), text);
     } else if (take(at, "text ")) {
         uint32_t pc = (uint32_t)number(at);

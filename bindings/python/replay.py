@@ -7,7 +7,7 @@ docs/C.md has the forms; those of rrs-replay are answered as it does.
 import sys
 
 import rrs
-from rrs import AccessKind, Fault, FaultKind, Machine, Retired, decode, disassemble
+from rrs import AccessKind, Fault, FaultKind, Machine, Retired, Row, decode, disassemble
 
 NAMES = {
     FaultKind.ILLEGAL_INSTRUCTION: "IllegalInstruction",
@@ -108,7 +108,7 @@ def told_record(record):
 
 def decoded(word):
     instruction = decode(word)
-    if instruction is None:
+    if instruction is None or instruction.row > Row.EBREAK:
         return "none"
     return f"{instruction.row} {disassemble(word, 0).split(' ')[0]}"
 

@@ -392,9 +392,11 @@ Row = enum.IntEnum(
     "Row",
     "ADD SUB SLL SLT SLTU XOR SRL SRA OR AND ADDI SLLI SLTI SLTIU XORI SRLI SRAI ORI ANDI LUI AUIPC "
     "BEQ BNE BLT BLTU BGE BGEU LB LBU LH LHU LW SB SH SW JAL JALR MUL MULH MULHU MULHSU DIV DIVU REM "
-    "REMU FENCE ECALL EBREAK",
+    "REMU FENCE ECALL EBREAK CSRRW CSRRS CSRRC CSRRWI CSRRSI CSRRCI MRET WFI FENCE_I LR_W SC_W "
+    "AMOSWAP_W AMOADD_W AMOXOR_W AMOAND_W AMOOR_W AMOMIN_W AMOMAX_W AMOMINU_W AMOMAXU_W",
 )
-Row.__doc__ = """The rows of the table, as decode() numbers them."""
+Row.__doc__ = """The rows of the table, 1 to 48, as decode() numbers them, and the instructions above it:
+those on CSRs, mret, wfi and fence.i, and extension A."""
 
 
 class AccessKind(enum.IntEnum):
@@ -415,8 +417,9 @@ class Access(NamedTuple):
 
 
 class Instruction(NamedTuple):
-    """The number of a row, 1 to 48, and its fields, 0 where its format has none. The immediate of
-    ecall is 0 and of ebreak 1, and fence has any."""
+    """The number of a row, one of Row, and its fields, 0 where its format has none. The immediate of
+    ecall is 0 and of ebreak 1, and fence has any. That of an instruction on a CSR is the number of the
+    CSR, and that of one of extension A is 2 for aq and 1 for rl."""
 
     row: int
     rd: int
@@ -1112,7 +1115,7 @@ def disassemble(word: int, pc: int = 0) -> Optional[str]:
 
 
 def row_name(row: int) -> Optional[str]:
-    """The name of a row of the table, 1 to 48, such as "addi", and None for another number."""
+    """The name of a Row, such as "addi" and "fence.i", and None for another number."""
     return _name("row", row)
 
 

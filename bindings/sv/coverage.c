@@ -65,12 +65,12 @@ static int edge_of(uint32_t value) {
 
 void cover(struct coverage *coverage, const rrs_retired *r) {
     rrs_instruction i = rrs_decode(r->insn);
-    uint64_t *counts = coverage->counts[i.row];
+    uint64_t *counts = coverage->counts[i.row < ROWS ? i.row : RRS_ROW_ILLEGAL];
     int first = edge_of(r->rs1_rdata), second = edge_of(r->rs2_rdata);
     uint32_t amount = i.row == RRS_ROW_SLLI || i.row == RRS_ROW_SRLI || i.row == RRS_ROW_SRAI
                           ? i.shamt
                           : r->rs2_rdata & 31;
-    if (i.row == RRS_ROW_ILLEGAL) return;
+    if (i.row == RRS_ROW_ILLEGAL || i.row >= ROWS) return; /* no row of the table */
     counts[0]++;
     if (first >= 0) counts[1 + first]++;
     if (second >= 0) counts[6 + second]++;

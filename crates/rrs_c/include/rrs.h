@@ -187,7 +187,8 @@ rrs_difference rrs_compare(const rrs_retired *model, const rrs_retired *core, ui
  * and 0 of a misaligned pc, a jump or a branch. */
 uint32_t rrs_cause(const rrs_fault *fault, uint32_t pc, uint32_t word);
 
-/* The rows of the table, as rrs_decode numbers them. */
+/* The rows of the table, as rrs_decode numbers them, and behind them the instructions above it: those
+ * on CSRs, mret, wfi and fence.i, and extension A. */
 enum rrs_row {
     RRS_ROW_ILLEGAL = 0,
     RRS_ROW_ADD = 1,
@@ -237,14 +238,36 @@ enum rrs_row {
     RRS_ROW_REMU = 45,
     RRS_ROW_FENCE = 46,
     RRS_ROW_ECALL = 47,
-    RRS_ROW_EBREAK = 48
+    RRS_ROW_EBREAK = 48,
+    RRS_ROW_CSRRW = 49,
+    RRS_ROW_CSRRS = 50,
+    RRS_ROW_CSRRC = 51,
+    RRS_ROW_CSRRWI = 52,
+    RRS_ROW_CSRRSI = 53,
+    RRS_ROW_CSRRCI = 54,
+    RRS_ROW_MRET = 55,
+    RRS_ROW_WFI = 56,
+    RRS_ROW_FENCE_I = 57,
+    RRS_ROW_LR_W = 58,
+    RRS_ROW_SC_W = 59,
+    RRS_ROW_AMOSWAP_W = 60,
+    RRS_ROW_AMOADD_W = 61,
+    RRS_ROW_AMOXOR_W = 62,
+    RRS_ROW_AMOAND_W = 63,
+    RRS_ROW_AMOOR_W = 64,
+    RRS_ROW_AMOMIN_W = 65,
+    RRS_ROW_AMOMAX_W = 66,
+    RRS_ROW_AMOMINU_W = 67,
+    RRS_ROW_AMOMAXU_W = 68
 };
 
 /* An instruction. A field that its format does not have is 0. The format of fence, ecall and ebreak
- * is I: the imm of ecall is 0 and of ebreak 1, and fence has any rd, rs1 and imm. */
+ * is I: the imm of ecall is 0 and of ebreak 1, and fence has any rd, rs1 and imm. Above the table the
+ * imm of an instruction on a CSR is the number of the CSR, 0 to 4095, and its rs1 may be a number; and
+ * the imm of one of extension A is 2 for aq and 1 for rl. */
 typedef struct rrs_instruction {
-    uint32_t row;   /* One of enum rrs_row: its number in the table, 1 (add) to 48 (ebreak), or 0
-                     * for an illegal instruction. */
+    uint32_t row;   /* One of enum rrs_row: its number in the table, 1 (add) to 48 (ebreak), a number
+                     * from 49 (csrrw) to 68 (amomaxu.w) above it, or 0 for a word that is none. */
     uint32_t rd;    /* The register that is written, by the format. */
     uint32_t rs1;   /* The first register that is read. */
     uint32_t rs2;   /* The second register that is read. */
@@ -272,7 +295,7 @@ size_t rrs_disassemble(uint32_t word, uint32_t pc, char *text, size_t size);
 /* Each writes a name, and a 0 after it, where the `size` bytes at `text` have room for both, and
  * else nothing. It returns the length of the name without the 0, whether it had room or not, and 0
  * where the number has no name.
- * - rrs_row_name: of enum rrs_row, as in the text of an instruction: "addi"
+ * - rrs_row_name: of enum rrs_row, as in the text of an instruction: "addi", "fence.i"
  * - rrs_fault_name: of enum rrs_fault_kind: "illegal instruction"
  * - rrs_register_name: of a register 0 to 31, in the ABI: "zero", "ra", .. "t6"
  * - rrs_field_name: of enum rrs_field: "rd_wdata", and "same" of RRS_SAME */

@@ -1,9 +1,14 @@
--- The names that C is given: those of the rows of the table, the kinds of exceptions, the registers
--- in the ABI (RISC-V ELF psABI specification, "Integer Register Convention"), and the fields of a
+-- The names that C is given: those of the rows of the table and of the instructions of the layers, the
+-- kinds of exceptions, the registers in the ABI (RISC-V ELF psABI specification, "Integer Register Convention"), and the fields of a
 -- record (RVFI, the RISC-V Formal Interface).
 use Rattle.std.specs.Prelude.{◌≡◌, ◌<◌, ℕ, zero, suc, List, [], ◌∷◌, length, Option, Some, None, codes}
 use Rattle.std.specs.Borrow.{Bor}
 use Rattle.rrs_lib.specs.Table.{Row, table}
+use Rattle.rrs_words.specs.declared.atomics.AtomicRow.{AtomicRow}
+use Rattle.rrs_words.specs.declared.instructions.SystemRow.{SystemRow}
+use Rattle.rrs_words.specs.AtomicInstructions.{atomic_table}
+use Rattle.rrs_words.specs.SystemInstructions.{system_table}
+use Rattle.rrs_words.specs.Layers.{system_number, atomic_number}
 use Rattle.rrs_c.specs.Buffers.{with_text}
 
 -- a name is put at the front of a buffer, with a 0 after it, where it has room for both, and its
@@ -12,11 +17,15 @@ abbrev pub PutsName : Option (List ℕ) → List ℕ → List ℕ → ℕ → Ty
 PutsName (Some name) old new told = (told ≡ length name) × (new ≡ with_text name old)
 PutsName None old new told = (told ≡ 0) × (new ≡ old)
 
--- the name of the row that has this number; other numbers have none
+-- the name of the row, or of the instruction of a layer, that has this number; other numbers have none
 pub record NamesRow (number : ℕ) (name : Option (List ℕ)) : Type 0 where
   pub of_row : (row : Row) → number ≡ (table row).number → name ≡ Some (table row).name
+  pub of_system : (row : SystemRow) → number ≡ system_number row
+      → name ≡ Some (system_table row).name
+  pub of_atomic : (row : AtomicRow) → number ≡ atomic_number row
+      → name ≡ Some (atomic_table row).name
   pub zero : number ≡ 0 → name ≡ None
-  pub above : 48 < number → name ≡ None
+  pub above : 68 < number → name ≡ None
 
 -- the name of a row is put into a buffer
 pub record PutsRowName (number : ℕ) (old new : List ℕ) (told : ℕ) : Type 0 where

@@ -3,12 +3,15 @@
 ghost use Rattle.std.specs.Prelude.{◌≡◌, ◌<◌, pos};
 ghost use Rattle.rrs_lib.specs.Encodings.{HasRegisters};
 ghost use Rattle.rrs_lib.specs.Instructions.{row_of, fields_of};
-ghost use Rattle.rrs_c.specs.Listing.{Lists, no_instruction};
+ghost use Rattle.rrs_lib.specs.Encodings.{I, R, IsInRange};
+ghost use Rattle.rrs_words.specs.declared.layers.LayerInstruction.TheVariants.{System, Atomic};
+ghost use Rattle.rrs_c.specs.Listing.{Lists, ListsLayer, layer_listed, no_instruction};
 
 use rrs_lib::instruction::Instruction;
+use rrs_words::{AtomicInstruction, LayerInstruction, SystemInstruction, decode_layer};
 
-/// An instruction: the number of its row, 1 to 48, and its fields. A field that its format does not
-/// have is 0.
+/// An instruction: the number of its row, 1 to 48, or that of an instruction of a layer, 49 to 68,
+/// and its fields. A field that its format does not have is 0.
 #[repr(C)]
 #[derive(Clone, Copy)]
 pub struct RrsInstruction {
@@ -54,5 +57,46 @@ pub(crate) fn listed(instruction: &Instruction) -> RrsInstruction
         rs2: instruction.rs2().unwrap_or(0) as u32,
         shamt: instruction.shift_amount().unwrap_or(0),
         imm: instruction.immediate().unwrap_or(0),
+    }
+}
+
+/// The number and the fields of an instruction on a CSR, of `mret`, `wfi` or `fence.i`.
+fn listed_system(instruction: &SystemInstruction) -> RrsInstruction
+    requires { IsInRange (I instruction.now.fields) }
+    ensures { result ≡ layer_listed (System instruction.now) }
+{
+    RrsInstruction {
+        row: instruction.row.number(),
+        rd: instruction.fields.rd as u32,
+        rs1: instruction.fields.rs1 as u32,
+        rs2: 0,
+        shamt: 0,
+        imm: instruction.csr_number() as i32,
+    }
+}
+
+/// The number and the fields of an instruction of extension A.
+fn listed_atomic(instruction: &AtomicInstruction) -> RrsInstruction
+    requires { IsInRange (R instruction.now.fields) }
+    ensures { result ≡ layer_listed (Atomic instruction.now) }
+{
+    RrsInstruction {
+        row: instruction.row.number(),
+        rd: instruction.fields.rd as u32,
+        rs1: instruction.fields.rs1 as u32,
+        rs2: instruction.fields.rs2 as u32,
+        shamt: 0,
+        imm: (instruction.fields.funct7 % 4) as i32,
+    }
+}
+
+/// The number and the fields of a word that is no row of the table.
+pub(crate) fn listed_layer(word: u32) -> RrsInstruction
+    ensures { ListsLayer word result }
+{
+    match decode_layer(word) {
+        Some(LayerInstruction::System(instruction)) => listed_system(&instruction),
+        Some(LayerInstruction::Atomic(instruction)) => listed_atomic(&instruction),
+        None => nothing(),
     }
 }

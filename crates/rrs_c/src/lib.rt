@@ -36,7 +36,7 @@ ghost use Rattle.rrs_trace.specs.Retired.{Retires};
 ghost use Rattle.rrs_trace.specs.Stops.{RunsToStop, IsOnlyRunToStop};
 ghost use Rattle.rrs_fast.specs.Decoded.{AreDecoded};
 ghost use Rattle.rrs_c.specs.Harts.{hart_in, state_in_c, exception_of, IsFault, IsEnd, answer_of, reason_of};
-ghost use Rattle.rrs_c.specs.Listing.{Lists, no_instruction};
+ghost use Rattle.rrs_c.specs.Listing.{Lists, ListsLayer};
 ghost use Rattle.rrs_c.specs.Records.{retired_in, IsRecord};
 ghost use Rattle.rrs_c.specs.Buffers.{Disassembles};
 ghost use Rattle.rrs_trace.specs.Outside.{WithEachMemory, AccessesAfterFetch, requested, Foretells, Completes};
@@ -72,7 +72,7 @@ use hart::{
     RrsEnd, RrsFault, RrsHart, close, end_of_run, end_of_stop, fault_of, fault_of_answer, last_of,
     number_of, opened,
 };
-use instruction::{RrsInstruction, listed, nothing};
+use instruction::{RrsInstruction, listed, listed_layer};
 use jumps::jumps_aside;
 use lent::{
     machine_step_lent, run_lent, run_until_lent, run_until_over_cache, step_lent, step_noted_lent,
@@ -436,16 +436,16 @@ pub extern "C" fn rrs_csr_write(csrs: &mut RrsCsrs, number: u32, value: u32) -> 
     csr_write(csrs, number, value)
 }
 
-/// The instruction that a word is: the number of its row and its fields, and row 0 for an illegal
-/// instruction.
+/// The instruction that a word is: the number of its row and its fields. An instruction of a layer,
+/// as `csrrw` or `lr.w`, has a number past the rows, and an illegal instruction row 0.
 #[unsafe(no_mangle)]
 pub extern "C" fn rrs_decode(word: u32) -> RrsInstruction
     ensures listed { (row : Row) (f : Fields) → Decodes word row f → Lists row f result }
-    ensures outside { IsIllegal word → result ≡ no_instruction }
+    ensures outside { IsIllegal word → ListsLayer word result }
 {
     match decode(word) {
         Some(instruction) => listed(&instruction),
-        None => nothing(),
+        None => listed_layer(word),
     }
 }
 

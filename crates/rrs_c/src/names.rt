@@ -5,12 +5,76 @@ ghost use Rattle.rrs_c.specs.Names.{NamesRow, PutsName, bytes_of, named, fault_n
 
 use crate::text::put_text;
 
-/// The names of the rows, in the order of their numbers.
-const ROWS: [&str; 48] = [
-    "add", "sub", "sll", "slt", "sltu", "xor", "srl", "sra", "or", "and", "addi", "slli", "slti",
-    "sltiu", "xori", "srli", "srai", "ori", "andi", "lui", "auipc", "beq", "bne", "blt", "bltu",
-    "bge", "bgeu", "lb", "lbu", "lh", "lhu", "lw", "sb", "sh", "sw", "jal", "jalr", "mul", "mulh",
-    "mulhu", "mulhsu", "div", "divu", "rem", "remu", "fence", "ecall", "ebreak",
+/// The names of the rows and of the instructions of the layers, in the order of their numbers.
+const ROWS: [&str; 68] = [
+    "add",
+    "sub",
+    "sll",
+    "slt",
+    "sltu",
+    "xor",
+    "srl",
+    "sra",
+    "or",
+    "and",
+    "addi",
+    "slli",
+    "slti",
+    "sltiu",
+    "xori",
+    "srli",
+    "srai",
+    "ori",
+    "andi",
+    "lui",
+    "auipc",
+    "beq",
+    "bne",
+    "blt",
+    "bltu",
+    "bge",
+    "bgeu",
+    "lb",
+    "lbu",
+    "lh",
+    "lhu",
+    "lw",
+    "sb",
+    "sh",
+    "sw",
+    "jal",
+    "jalr",
+    "mul",
+    "mulh",
+    "mulhu",
+    "mulhsu",
+    "div",
+    "divu",
+    "rem",
+    "remu",
+    "fence",
+    "ecall",
+    "ebreak",
+    "csrrw",
+    "csrrs",
+    "csrrc",
+    "csrrwi",
+    "csrrsi",
+    "csrrci",
+    "mret",
+    "wfi",
+    "fence.i",
+    "lr.w",
+    "sc.w",
+    "amoswap.w",
+    "amoadd.w",
+    "amoxor.w",
+    "amoand.w",
+    "amoor.w",
+    "amomin.w",
+    "amomax.w",
+    "amominu.w",
+    "amomaxu.w",
 ];
 
 /// The names of the kinds of exceptions, from 0 on.
@@ -46,11 +110,11 @@ const FIELDS: [&str; 17] = [
     "mem_wdata",
 ];
 
-/// The name of the row of this number.
+/// The name of the row, or of the instruction of a layer, of this number.
 pub(crate) fn row_name(row: u32) -> Option<&'static str>
     ensures { NamesRow row (bytes_of result) }
 {
-    if row == 0 || 48 < row {
+    if row == 0 || 68 < row {
         return None;
     }
     Some(ROWS[row as usize - 1])

@@ -1,6 +1,10 @@
 -- The instructions of the layers: those that are no row of the kit. An instruction on a CSR, mret,
 -- wfi or fence.i, or one of extension A. Each reader of words or of texts asks these.
 use Rattle.std.specs.Prelude.{ℕ, List}
+use Rattle.rrs_words.specs.declared.atomics.AtomicRow.{AtomicRow}
+use Rattle.rrs_words.specs.declared.atomics.AtomicRow.TheVariants.{LrW, ScW, AmoSwap, AmoAdd, AmoXor, AmoAnd, AmoOr, AmoMin, AmoMax, AmoMinu, AmoMaxu}
+use Rattle.rrs_words.specs.declared.instructions.SystemRow.{SystemRow}
+use Rattle.rrs_words.specs.declared.instructions.SystemRow.TheVariants.{Csrrw, Csrrs, Csrrc, Csrrwi, Csrrsi, Csrrci, Mret, Wfi, FenceI}
 use Rattle.rrs_words.specs.declared.layers.LayerInstruction.{LayerInstruction}
 use Rattle.rrs_words.specs.declared.layers.LayerInstruction.TheVariants.{System, Atomic}
 use Rattle.rrs_words.specs.SystemInstructions.{IsSystem}
@@ -16,3 +20,29 @@ IsOfLayer w (Atomic i) = IsAtomic w i.row i.fields
 abbrev pub layer_text : LayerInstruction → List ℕ
 layer_text (System i) = system_text i.row i.fields
 layer_text (Atomic i) = atomic_text i.row i.fields
+
+-- ---- their numbers, which follow the 48 rows of the kit
+
+abbrev pub system_number : SystemRow → ℕ
+system_number Csrrw = 49
+system_number Csrrs = 50
+system_number Csrrc = 51
+system_number Csrrwi = 52
+system_number Csrrsi = 53
+system_number Csrrci = 54
+system_number Mret = 55
+system_number Wfi = 56
+system_number FenceI = 57
+
+abbrev pub atomic_number : AtomicRow → ℕ
+atomic_number LrW = 58
+atomic_number ScW = 59
+atomic_number AmoSwap = 60
+atomic_number AmoAdd = 61
+atomic_number AmoXor = 62
+atomic_number AmoAnd = 63
+atomic_number AmoOr = 64
+atomic_number AmoMin = 65
+atomic_number AmoMax = 66
+atomic_number AmoMinu = 67
+atomic_number AmoMaxu = 68

@@ -3,6 +3,7 @@
 ghost use Rattle.std.specs.Prelude.{◌≡◌, ◌≢◌, ◌+◌, ◌<◌, ◌≤◌, ◌^◌, ◌/◌, ◌*◌, IfSome, IfNone, length};
 ghost use Rattle.rrs_instruction.specs.declared.instruction_formats.RType.{RType as RFields};
 ghost use Rattle.rrs_words.specs.AtomicInstructions.{IsAtomic, atomic_table};
+ghost use Rattle.rrs_words.specs.Layers.{atomic_number};
 
 use rrs_lib::instruction_formats::RType;
 
@@ -62,6 +63,27 @@ impl AtomicRow {
             AtomicRow::AmoMax => 20,
             AtomicRow::AmoMinu => 24,
             AtomicRow::AmoMaxu => 28,
+        }
+    }
+
+    /// Its number, 58 to 68: those of extension A follow the 57 of the kit and of [SystemRow].
+    ///
+    /// [SystemRow]: crate::SystemRow
+    pub fn number(self) -> u32
+        ensures { result ≡ atomic_number self }
+    {
+        match self {
+            AtomicRow::LrW => 58,
+            AtomicRow::ScW => 59,
+            AtomicRow::AmoSwap => 60,
+            AtomicRow::AmoAdd => 61,
+            AtomicRow::AmoXor => 62,
+            AtomicRow::AmoAnd => 63,
+            AtomicRow::AmoOr => 64,
+            AtomicRow::AmoMin => 65,
+            AtomicRow::AmoMax => 66,
+            AtomicRow::AmoMinu => 67,
+            AtomicRow::AmoMaxu => 68,
         }
     }
 

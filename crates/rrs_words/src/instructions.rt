@@ -3,6 +3,7 @@
 ghost use Rattle.std.specs.Prelude.{◌≡◌, ◌+◌, ◌-◌, ◌/◌, ◌%◌, ◌^◌, ◌<◌, ◌≤ℤ◌, pos, neg_ℤ, IfSome, IfNone};
 ghost use Rattle.rrs_instruction.specs.declared.instruction_formats.IType.{IType as IFields};
 ghost use Rattle.rrs_instruction.specs.Encodings.{I, IsInRange};
+ghost use Rattle.rrs_words.specs.Layers.{system_number};
 ghost use Rattle.rrs_words.specs.SystemInstructions.{IsSystem, alone_number, csr_number, system_table, always_writes, writes_csr, has_immediate, updated, HasPlaces};
 
 use rrs_instruction::arithmetic;
@@ -63,6 +64,23 @@ impl SystemRow {
             SystemRow::Csrrwi => 5,
             SystemRow::Csrrsi => 6,
             SystemRow::Csrrci => 7,
+        }
+    }
+
+    /// Its number, 49 to 57: the numbers of the rows that the kit leaves out follow its 48.
+    pub fn number(self) -> u32
+        ensures { result ≡ system_number self }
+    {
+        match self {
+            SystemRow::Csrrw => 49,
+            SystemRow::Csrrs => 50,
+            SystemRow::Csrrc => 51,
+            SystemRow::Csrrwi => 52,
+            SystemRow::Csrrsi => 53,
+            SystemRow::Csrrci => 54,
+            SystemRow::Mret => 55,
+            SystemRow::Wfi => 56,
+            SystemRow::FenceI => 57,
         }
     }
 
