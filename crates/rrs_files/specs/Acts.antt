@@ -1,8 +1,9 @@
 -- What the calls that put nothing into memory do to the files of a program, where the path is read
 -- and allowed: which calls of the host are made, in order, and with which path. No other is made.
-use Rattle.std.specs.Prelude.{◌≡◌, ℕ, ◌+◌, ◌*◌, ◌==◌, ◌&&◌, ◌||◌, not, bit_and, if◌then◌else◌, List, Bool, true, false, set, Option, Some, None, unwrap_or}
+use Rattle.std.specs.Prelude.{◌≡◌, ℕ, ◌+◌, ◌*◌, ◌<◌, ◌≤◌, ◌==◌, ◌&&◌, ◌||◌, not, bit_and, if◌then◌else◌, List, Bool, true, false, set, slice_index_or, Option, Some, None, unwrap_or, Result, Ok, Err}
 use Rattle.rrs_linux.specs.Requests.{error}
 use Rattle.rrs_files.specs.declared.files.Files.{Files}
+use Rattle.rrs_files.specs.declared.folder.Status.{Status}
 use Rattle.rrs_files.specs.declared.folder.Change.{Change}
 use Rattle.rrs_files.specs.declared.folder.Change.TheVariants as Change
 use Rattle.rrs_files.specs.declared.folder.How.{How}
@@ -10,8 +11,8 @@ use Rattle.rrs_files.specs.declared.folder.NameChange.{NameChange}
 use Rattle.rrs_files.specs.declared.folder.NameChange.TheVariants as NameChange
 use Rattle.rrs_files.specs.declared.paths.Named.{Named}
 use Rattle.rrs_files.specs.declared.paths.Named.TheVariants.{There, Missing, Stopped}
-use Rattle.rrs_files.specs.Descriptors.{IsOpen, IsClosed, IsFirstFree, IsFull}
-use Rattle.rrs_files.specs.Events.{Did, Opened, Closed, Changed, NameChanged, Renamed}
+use Rattle.rrs_files.specs.Descriptors.{IsOpen, IsClosed, IsFirstFree, IsFull, kept_flags}
+use Rattle.rrs_files.specs.Events.{Did, Opened, Closed, Told, Changed, NameChanged, Renamed}
 use Rattle.rrs_files.specs.Paths.{Walks, kind}
 use Rattle.rrs_files.specs.Requests.{how_of, not_served, changes}
 
@@ -29,6 +30,14 @@ opening (There status) how =
     -- a directory: EISDIR is 21; a device, a pipe, a socket: EACCES is 13
     else (if kind status == 0x4000 then Some (error 21) else Some (error 13))))
 
+-- why the times of what has this status aren't set, if they aren't: it is neither a file nor a
+-- directory, but a link (ELOOP is 40), or another (EACCES is 13)
+abbrev pub timing : Status → Option ℕ
+timing status =
+    if kind status == 0x8000 then None
+    else (if kind status == 0x4000 then None
+    else (if kind status == 0xa000 then Some (error 40) else Some (error 13)))
+
 -- why a name isn't changed, if it isn't; a link is removed
 abbrev pub keeping : Named → NameChange → Option ℕ
 keeping (Stopped e) change = Some e
@@ -41,6 +50,7 @@ keeping (There status) NameChange.Remove =
     if kind status == 0x4000 then Some (error 21) else None
 keeping (There status) NameChange.RemoveDirectory =
     if kind status == 0x4000 then None else Some (error 20)
+keeping (There status) (NameChange.SetTimes accessed modified) = timing status
 
 -- why what a path names isn't renamed, if it isn't: there is none, or it is a link (ELOOP is 40)
 abbrev pub moving : Named → Option ℕ
@@ -73,10 +83,30 @@ needs_right (Change.Length length) = false
 needs_right Change.Flush = false
 needs_right Change.FlushBytes = false
 
--- the answer to a command of fcntl64: 0 to F_GETFD (1) and F_SETFD (2), since no program is started
--- for which a descriptor would be closed; there are no others (EINVAL is 22)
-abbrev pub control_answer : ℕ → ℕ
-control_answer command = if (command == 1) || (command == 2) then 0 else error 22
+-- The answer to a command of fcntl64 on a descriptor with these flags. It is 0 to F_GETFD (1) and
+-- F_SETFD (2), since no program is started for which a descriptor would be closed; the flags to
+-- F_GETFL (3); and 0 to F_SETFL (4) where O_APPEND (0x400) stays, since no other flag changes
+-- anything. There are no others (EINVAL is 22).
+abbrev pub control_answer : (flags command argument : ℕ) → ℕ
+control_answer flags command argument =
+    if (command == 1) || (command == 2) then 0
+    else (if command == 3 then flags
+    else (if (command == 4) && (bit_and argument 0x400 == bit_and flags 0x400) then 0
+    else error 22))
+
+-- how a stream is open: the input to be read (O_RDONLY is 0), the others to be written (O_WRONLY is
+-- 1)
+abbrev pub stream_flags : ℕ → ℕ
+stream_flags descriptor = if descriptor == 0 then 0 else 1
+
+-- an owner or a group stays the one it is: it is that, or -1
+abbrev pub keeps : (wanted present : ℕ) → Bool
+keeps wanted present = (wanted == 0xffffffff) || (wanted == present)
+
+-- whether what has this status gets an owner and a group: where it has them (EPERM is 1)
+abbrev pub owning : Status → (owner group : ℕ) → ℕ
+owning status owner group =
+    if keeps owner status.owner && keeps group status.group then 0 else error 1
 
 -- By what a folder says of a call:
 module _ {F : Type 0} (did : Did F) where
@@ -111,7 +141,10 @@ module _ {F : Type 0} (did : Did F) where
         → did mid (Opened place path (how_of flags mode) None) folder
         → new ≡ record old {
           folder = folder;
-          descriptors = record { are_open = set old.descriptors.are_open place true };
+          descriptors = record {
+            are_open = set old.descriptors.are_open place true;
+            flags = set old.descriptors.flags place (kept_flags flags);
+          };
         }
         → answer ≡ place + 3 → Opens path flags mode old new answer
 
@@ -122,7 +155,9 @@ module _ {F : Type 0} (did : Did F) where
         → did old.folder (Closed place) folder
         → new ≡ record old {
           folder = folder;
-          descriptors = record { are_open = set old.descriptors.are_open place false };
+          descriptors = record old.descriptors {
+            are_open = set old.descriptors.are_open place false;
+          };
         }
         → answer ≡ 0 → Closes descriptor old new answer
     -- EBADF is 9
@@ -146,7 +181,22 @@ module _ {F : Type 0} (did : Did F) where
         → new ≡ record old { folder = folder } → answer ≡ unwrap_or failed 0
         → Changes descriptor change old new answer
 
-  -- unlinkat and mkdirat of a path
+  -- fchown: no owner is changed, but the file of the descriptor may have this one
+  pub data Owns (descriptor owner group : ℕ) (old new : Files F) (answer : ℕ) : Type 0 where
+    NotOpenToOwn :
+        IsClosed old.descriptors.are_open descriptor → new ≡ old → answer ≡ error 9
+        → Owns descriptor owner group old new answer
+    HasNoOwner : (place : ℕ) (folder : F)
+        → IsOpen old.descriptors.are_open descriptor place
+        → did old.folder (Told place (Err answer)) folder
+        → new ≡ record old { folder = folder } → Owns descriptor owner group old new answer
+    HasOwner : (place : ℕ) (folder : F) (status : Status)
+        → IsOpen old.descriptors.are_open descriptor place
+        → did old.folder (Told place (Ok status)) folder
+        → new ≡ record old { folder = folder } → answer ≡ owning status owner group
+        → Owns descriptor owner group old new answer
+
+  -- unlinkat, mkdirat and utimensat of a path
   pub data ChangesName (path : List ℕ) (change : NameChange) (old new : Files F) (answer : ℕ)
       : Type 0 where
     MayNot :
@@ -192,11 +242,16 @@ module _ {F : Type 0} (did : Did F) where
         → Tests path asked old new answer
 
   -- fcntl64 on a descriptor
-  pub data Controls (descriptor command : ℕ) (old new : Files F) (answer : ℕ) : Type 0 where
+  pub data Controls (descriptor command argument : ℕ) (old new : Files F) (answer : ℕ)
+      : Type 0 where
+    IsOfStream :
+        descriptor ≤ 2 → new ≡ old
+        → answer ≡ control_answer (stream_flags descriptor) command argument
+        → Controls descriptor command argument old new answer
     NotOpenToControl :
-        IsClosed old.descriptors.are_open descriptor → new ≡ old → answer ≡ error 9
-        → Controls descriptor command old new answer
+        2 < descriptor → IsClosed old.descriptors.are_open descriptor
+        → new ≡ old → answer ≡ error 9 → Controls descriptor command argument old new answer
     IsControlled : (place : ℕ)
         → IsOpen old.descriptors.are_open descriptor place → new ≡ old
-        → answer ≡ control_answer command
-        → Controls descriptor command old new answer
+        → answer ≡ control_answer (slice_index_or old.descriptors.flags place 0) command argument
+        → Controls descriptor command argument old new answer

@@ -1,9 +1,9 @@
 -- What the calls for files do to the files and to the machine: which bytes of memory are read and
 -- written, which calls of the host are made, and what is answered. A call that is refused makes no
 -- call of the host, but for the looks at its path.
-use Rattle.std.specs.Prelude.{◌≡◌, ◌⊎◌, ℕ, ◌+◌, ◌^◌, ◌<◌, ◌≤◌, ◌==◌, ◌&&◌, min, not, bit_and, if◌then◌else◌, Bool, true, false, List, [], ◌∷◌, ◌++◌, length, Option, Some, None, Result, Ok, Err}
+use Rattle.std.specs.Prelude.{◌≡◌, ◌⊎◌, ℕ, ◌+◌, ◌^◌, ◌<◌, ◌≤◌, ◌*◌, ◌==◌, ◌&&◌, ◌||◌, nat_le, min, not, bit_and, if◌then◌else◌, Bool, true, false, List, [], ◌∷◌, ◌++◌, length, Option, Some, None, Result, Ok, Err}
 use Rattle.std.specs.Int.{to_le_bytes, w64}
-use Rattle.rrs_lib.specs.Bytes.{ByteMap}
+use Rattle.rrs_lib.specs.Bytes.{ByteMap, little_endian}
 use Rattle.rrs_lib.specs.AccessLists.{Access}
 use Rattle.rrs_lib.specs.Machine.{State}
 use Rattle.rrs_fast.specs.Serving.{Relation}
@@ -13,13 +13,16 @@ use Rattle.rrs_linux.specs.Statuses.{PutsBytes}
 use Rattle.rrs_linux.specs.SystemCalls.{answered}
 use Rattle.rrs_linux.specs.Transfers.{Stands, byte_reads}
 use Rattle.rrs_files.specs.declared.files.Files.{Files}
+use Rattle.rrs_files.specs.declared.folder.Moment.{Moment}
+use Rattle.rrs_files.specs.declared.folder.NameChange.{NameChange}
+use Rattle.rrs_files.specs.declared.folder.NameChange.TheVariants.{SetTimes}
 use Rattle.rrs_files.specs.declared.folder.Status.{Status}
 use Rattle.rrs_files.specs.declared.paths.Named.{Named}
 use Rattle.rrs_files.specs.declared.paths.Named.TheVariants.{There, Missing, Stopped}
 use Rattle.rrs_files.specs.declared.requests.FileRequest.{FileRequest}
 use Rattle.rrs_files.specs.declared.requests.FileRequest.TheVariants as FileRequest
 use Rattle.rrs_files.specs.declared.serving.WithFiles.{WithFiles}
-use Rattle.rrs_files.specs.Acts.{Opens, Closes, Changes, ChangesName, Renames, Tests, Controls}
+use Rattle.rrs_files.specs.Acts.{Opens, Closes, Changes, Owns, ChangesName, Renames, Tests, Controls}
 use Rattle.rrs_files.specs.Descriptors.{IsOpen, IsClosed}
 use Rattle.rrs_files.specs.Events.{Did, Gave, Took, Sought, Told}
 use Rattle.rrs_files.specs.Paths.{IsText, IsAllowed, IsForbidden, Walks, kind}
@@ -81,6 +84,39 @@ pub data TellsFolder (writable : ℕ → Bool) (bytes bytes' : ByteMap) (a size 
   HasRoom : (put : ℕ)
       → 2 ≤ size → PutsBytes writable bytes bytes' a (47 ∷ 0 ∷ []) accesses put
       → answer ≡ folder_answer put → TellsFolder writable bytes bytes' a size answer accesses
+
+-- A time is at a (struct __kernel_timespec): the seconds in 8 bytes, and the nanoseconds in the
+-- lowest 4 of 8.
+pub record IsMoment (bytes : ByteMap) (a : ℕ) (moment : Moment) : Type 0 where
+  pub low : ℕ
+  pub high : ℕ
+  pub low_there : little_endian bytes a 4 ≡ Some low
+  pub high_there : little_endian bytes (a + 4) 4 ≡ Some high
+  pub is_seconds : moment.seconds ≡ high * 2 ^ 32 + low
+  pub nanos_there : little_endian bytes (a + 8) 4 ≡ Some moment.nanos
+
+-- the change to two times, of which each has less nanoseconds than a second (EINVAL is 22): neither
+-- UTIME_NOW nor UTIME_OMIT is served
+abbrev pub times_of : (accessed modified : Moment) → Result NameChange ℕ
+times_of accessed modified =
+    if nat_le 1000000000 accessed.nanos || nat_le 1000000000 modified.nanos then Err (error 22)
+    else Ok (SetTimes accessed modified)
+
+-- The 32 bytes of two times at a are read, up to the first that is not mapped (EFAULT is 14), and
+-- they ask for this change, or the error.
+pub data TakesTimes (bytes : ByteMap) (a : ℕ) (change : Result NameChange ℕ)
+    (accesses : List Access) : Type 0 where
+  AreTaken : (accessed modified : Moment)
+      → a + 32 ≤ 2 ^ 32 → IsMoment bytes a accessed → IsMoment bytes (a + 16) modified
+      → accesses ≡ byte_reads bytes a 32 → change ≡ times_of accessed modified
+      → TakesTimes bytes a change accesses
+  AreUnmapped : (n : ℕ)
+      → a + 32 ≤ 2 ^ 32 → n < 32 → bytes (a + n) ≡ None
+      → accesses ≡ byte_reads bytes a (n + 1) → change ≡ Err (error 14)
+      → TakesTimes bytes a change accesses
+  PassEnd :
+      2 ^ 32 < a + 32 → accesses ≡ [] → change ≡ Err (error 14)
+      → TakesTimes bytes a change accesses
 
 -- By what a folder says of a call, by which addresses are writable, and by the bytes before and
 -- after:
@@ -233,6 +269,17 @@ module _ {F : Type 0} (did : Did F) (writable : ℕ → Bool) (bytes bytes' : By
         → accesses ≡ first ++ later
         → TellsNamed beside path flags a old new answer accesses
 
+  -- utimensat: the times at a are read, and then the path
+  pub data SetsTimes (beside path a : ℕ) (old new : Files F) (answer : ℕ) (accesses : List Access)
+      : Type 0 where
+    HasNoTimes :
+        TakesTimes bytes a (Err answer) accesses → new ≡ old → bytes' ≡ bytes
+        → SetsTimes beside path a old new answer accesses
+    HasTimes : (change : NameChange) (first later : List Access)
+        → TakesTimes bytes a (Ok change) first
+        → ByPath (λ text. ChangesName did text change) beside path old new answer later
+        → accesses ≡ first ++ later → SetsTimes beside path a old new answer accesses
+
   -- what is asked for takes the files from the first to the second
   abbrev pub DoesFile : FileRequest → Files F → Files F → ℕ → List Access → Type 0
   DoesFile (FileRequest.Open beside path flags mode) old new answer accesses =
@@ -255,14 +302,19 @@ module _ {F : Type 0} (did : Did F) (writable : ℕ → Bool) (bytes bytes' : By
       TellsNamed beside path flags a old new answer accesses
   DoesFile (FileRequest.ChangeFile descriptor change) old new answer accesses =
       Changes did descriptor change old new answer × (bytes' ≡ bytes) × (accesses ≡ [])
+  DoesFile (FileRequest.Own descriptor owner group) old new answer accesses =
+      Owns did descriptor owner group old new answer × (bytes' ≡ bytes) × (accesses ≡ [])
   DoesFile (FileRequest.ChangeName beside path change) old new answer accesses =
       ByPath (λ text. ChangesName did text change) beside path old new answer accesses
   DoesFile (FileRequest.Rename beside path beside' path') old new answer accesses =
       ByPaths (Renames did) beside path beside' path' old new answer accesses
   DoesFile (FileRequest.Test beside path asked) old new answer accesses =
       ByPath (λ text. Tests did text asked) beside path old new answer accesses
-  DoesFile (FileRequest.Control descriptor command) old new answer accesses =
-      Controls did descriptor command old new answer × (bytes' ≡ bytes) × (accesses ≡ [])
+  DoesFile (FileRequest.Control descriptor command argument) old new answer accesses =
+      Controls did descriptor command argument old new answer × (bytes' ≡ bytes)
+      × (accesses ≡ [])
+  DoesFile (FileRequest.SetTimes beside path a) old new answer accesses =
+      SetsTimes beside path a old new answer accesses
   DoesFile (FileRequest.Folder a size) old new answer accesses =
       TellsFolder writable bytes bytes' a size answer accesses × (new ≡ old)
   DoesFile (FileRequest.Refused said) old new answer accesses =

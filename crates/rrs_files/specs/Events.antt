@@ -21,7 +21,7 @@ pub data Event : Type 0 where
   Told : (at : ℕ) → Result Status ℕ → Event
   -- ftruncate(2), fsync(2), fdatasync(2), fchmod(2)
   Changed : (at : ℕ) → Change → Option ℕ → Event
-  -- unlink(2), rmdir(2), mkdir(2), and rename(2) from one path to the other
+  -- unlink(2), rmdir(2), mkdir(2), utimensat(2), and rename(2) from one path to the other
   NameChanged : (path : List ℕ) → NameChange → Option ℕ → Event
   Renamed : (from to : List ℕ) → Option ℕ → Event
 

@@ -9,20 +9,22 @@ use Rattle.rrs_files.specs.declared.folder.Change.TheVariants.{Length, Flush, Fl
 use Rattle.rrs_files.specs.declared.folder.How.{How}
 use Rattle.rrs_files.specs.declared.folder.NameChange.TheVariants.{Remove, RemoveDirectory, MakeDirectory}
 use Rattle.rrs_files.specs.declared.requests.FileRequest.{FileRequest}
-use Rattle.rrs_files.specs.declared.requests.FileRequest.TheVariants.{Open, Close, Seek, Read, ReadAt, Write, WriteAt, Status, NamedStatus, ChangeFile, ChangeName, Rename, Test, Control, Folder, Refused}
+use Rattle.rrs_files.specs.declared.requests.FileRequest.TheVariants.{Open, Close, Seek, Read, ReadAt, Write, WriteAt, Status, NamedStatus, ChangeFile, Own, ChangeName, Rename, Test, Control, SetTimes, Folder, Refused}
 
 -- fstatat64, close, read, write, fstat64, _llseek, statx, ftruncate64, fsync, fdatasync, fchmod,
--- fcntl64, pread64 and pwrite64, whose first argument is a descriptor
+-- fchown, pread64 and pwrite64, whose first argument is a descriptor
 abbrev pub TakesDescriptor : ℕ → Type 0
 TakesDescriptor call =
     (call ≡ 79) ⊎ (call ≡ 57) ⊎ (call ≡ 63) ⊎ (call ≡ 64) ⊎ (call ≡ 80) ⊎ (call ≡ 62)
-    ⊎ (call ≡ 291) ⊎ (call ≡ 46) ⊎ (call ≡ 82) ⊎ (call ≡ 83) ⊎ (call ≡ 52) ⊎ (call ≡ 25)
+    ⊎ (call ≡ 291) ⊎ (call ≡ 46) ⊎ (call ≡ 82) ⊎ (call ≡ 83) ⊎ (call ≡ 52) ⊎ (call ≡ 55)
     ⊎ (call ≡ 67) ⊎ (call ≡ 68)
 
--- openat, unlinkat, mkdirat, faccessat, renameat2 and getcwd, which name a file
-abbrev pub TakesPath : ℕ → Type 0
-TakesPath call =
-    (call ≡ 56) ⊎ (call ≡ 35) ⊎ (call ≡ 34) ⊎ (call ≡ 48) ⊎ (call ≡ 276) ⊎ (call ≡ 17)
+-- openat, unlinkat, mkdirat, faccessat, renameat2, utimensat_time64 and getcwd, which name a file,
+-- and fcntl64, of a file or of a stream
+abbrev pub IsOfFiles : ℕ → Type 0
+IsOfFiles call =
+    (call ≡ 56) ⊎ (call ≡ 35) ⊎ (call ≡ 34) ⊎ (call ≡ 48) ⊎ (call ≡ 276) ⊎ (call ≡ 412)
+    ⊎ (call ≡ 17) ⊎ (call ≡ 25)
 
 -- what a call with this number and these arguments asks for
 pub data AsksFileBy (call a0 a1 a2 a3 a4 : ℕ) (request : Option FileRequest) : Type 0 where
@@ -73,9 +75,19 @@ pub data AsksFileBy (call a0 a1 a2 a3 a4 : ℕ) (request : Option FileRequest) :
   ToSetMode :
       call ≡ 52 → 2 < a0 → request ≡ Some (ChangeFile a0 (Mode (bit_and a1 0o7777)))
       → AsksFileBy call a0 a1 a2 a3 a4 request
+  -- fchown(2)
+  ToOwn :
+      call ≡ 55 → 2 < a0 → request ≡ Some (Own a0 a1 a2) → AsksFileBy call a0 a1 a2 a3 a4 request
   -- fcntl(2)
   ToControl :
-      call ≡ 25 → 2 < a0 → request ≡ Some (Control a0 a1) → AsksFileBy call a0 a1 a2 a3 a4 request
+      call ≡ 25 → request ≡ Some (Control a0 a1 a2) → AsksFileBy call a0 a1 a2 a3 a4 request
+  -- utimensat(2): times, and no flag
+  ToSetTimes :
+      call ≡ 412 → a2 ≢ 0 → a3 ≡ 0 → request ≡ Some (SetTimes a0 a1 a2)
+      → AsksFileBy call a0 a1 a2 a3 a4 request
+  ToSetTimesSo :
+      call ≡ 412 → (a2 ≡ 0) ⊎ (a3 ≢ 0) → request ≡ Some (Refused (error 22))
+      → AsksFileBy call a0 a1 a2 a3 a4 request
   -- fstatat64 (fstatat(2)): the status is put at a2, and the flags are a3
   ToGetNamed :
       call ≡ 79 → 2 < a0 → request ≡ Some (NamedStatus a0 a1 a3 a2)
@@ -100,7 +112,7 @@ pub data AsksFileBy (call a0 a1 a2 a3 a4 : ℕ) (request : Option FileRequest) :
       call ≡ 291 → 2 < a0 → request ≡ Some (Refused (error 38))
       → AsksFileBy call a0 a1 a2 a3 a4 request
   OfOther :
-      (TakesPath call → ⊥) → (TakesDescriptor call → a0 ≤ 2) → request ≡ None
+      (IsOfFiles call → ⊥) → (TakesDescriptor call → a0 ≤ 2) → request ≡ None
       → AsksFileBy call a0 a1 a2 a3 a4 request
 
 -- what the call of a machine at an ecall asks for

@@ -1,7 +1,7 @@
 //! The descriptors of the files that a program has open.
 
-ghost use Rattle.std.specs.Prelude.{◌≡◌, ◌≤◌, ◌+◌, MatchOption, set};
-ghost use Rattle.rrs_files.specs.Descriptors.{IsClosed, IsFirstFree, IsFull, IsOpen};
+ghost use Rattle.std.specs.Prelude.{◌≡◌, ◌≤◌, ◌+◌, true, false, MatchOption, set};
+ghost use Rattle.rrs_files.specs.Descriptors.{IsClosed, IsFirstFree, IsFull, IsOpen, kept_flags};
 
 /// How many files may be open.
 pub const MOST_OPEN: usize = 64;
@@ -9,17 +9,23 @@ pub const MOST_OPEN: usize = 64;
 /// The first descriptor of a file: those before it are the standard streams.
 const FIRST: u32 = 3;
 
+/// The flags of `openat` that are kept: the access mode, and `O_APPEND`.
+const KEPT: u32 = 0x403;
+
 /// Which of the 64 descriptors from 3 on are open.
 #[derive(Clone, Copy, Debug, PartialEq)]
 pub struct Descriptors {
     /// Whether each is.
     pub are_open: [bool; MOST_OPEN],
+    /// How each that is open was opened: its access mode and `O_APPEND`, of the flags of `openat`.
+    pub flags: [u32; MOST_OPEN],
 }
 
 impl Descriptors {
     /// Of which none is open.
     pub const NONE: Descriptors = Descriptors {
         are_open: [false; MOST_OPEN],
+        flags: [0; MOST_OPEN],
     };
 
     /// The place of a descriptor, from 0 on, if it is open.
@@ -51,12 +57,23 @@ impl Descriptors {
         None
     }
 
-    /// Opens or closes the descriptor of a place.
-    pub fn set(&mut self, place: usize, is_open: bool)
+    /// Takes the descriptor of a place, with flags of `openat`.
+    pub fn take(&mut self, place: usize, flags: u32)
         requires { place ≤ 63 }
-        ensures { self.new.are_open ≡ set self.old.are_open place is_open }
+        ensures taken { self.new.are_open ≡ set self.old.are_open place true }
+        ensures noted { self.new.flags ≡ set self.old.flags place (kept_flags flags) }
     {
-        self.are_open[place] = is_open;
+        self.are_open[place] = true;
+        self.flags[place] = flags & KEPT;
+    }
+
+    /// Frees the descriptor of a place.
+    pub fn free(&mut self, place: usize)
+        requires { place ≤ 63 }
+        ensures freed { self.new.are_open ≡ set self.old.are_open place false }
+        ensures flags_kept { self.new.flags ≡ self.old.flags }
+    {
+        self.are_open[place] = false;
     }
 }
 

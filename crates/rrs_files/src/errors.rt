@@ -1,5 +1,7 @@
 //! The answers of calls that fail: for the error n of Linux the word -n.
 
+/// The program may not do so, `EPERM` (1).
+pub const NOT_PERMITTED: u32 = 0xffff_ffff;
 /// There is no such file, `ENOENT` (2).
 pub const NO_FILE: u32 = 0xffff_fffe;
 /// The descriptor is not open, `EBADF` (9).

@@ -1,15 +1,15 @@
 //! The files of a program, and what the calls do to them whose path is read.
 
 ghost use Rattle.std.specs.Prelude.{◌≡◌, ◌&&◌};
-ghost use Rattle.rrs_files.specs.Acts.{Changes, ChangesName, Closes, Controls, Opens, Renames, Tests, control_answer, denying, keeping, moving, needs_right, opening, replacing};
+ghost use Rattle.rrs_files.specs.Acts.{Changes, ChangesName, Closes, Controls, Opens, Owns, Renames, Tests, control_answer, denying, keeping, keeps, moving, needs_right, opening, owning, replacing, stream_flags, timing};
 ghost use Rattle.rrs_files.specs.Requests.{changes, not_served};
 
 use crate::descriptors::{Descriptors, descriptor_at};
 use crate::errors::{
     A_DIRECTORY, ACCESS_DENIED, BAD_ARGUMENT, BAD_DESCRIPTOR, IS_LINK, IS_THERE, MANY_OPEN,
-    NO_DIRECTORY, NO_FILE, READ_ONLY,
+    NO_DIRECTORY, NO_FILE, NOT_PERMITTED, READ_ONLY,
 };
-use crate::folder::{Change, Folder, How, NameChange};
+use crate::folder::{Change, Folder, How, NameChange, Status};
 use crate::paths::{IS_DIRECTORY, IS_FILE, IS_SYMBOLIC, Named, kind_of, walk};
 use crate::requests::how_of;
 
@@ -20,6 +20,14 @@ const NOT_SERVED: u32 = 0x21_0000;
 const GET_FLAGS: u32 = 1;
 
 const SET_FLAGS: u32 = 2;
+
+/// Its commands for those of an open file: `F_GETFL`, `F_SETFL`.
+const GET_STATUS: u32 = 3;
+
+const SET_STATUS: u32 = 4;
+
+/// Of these flags: each write is at the end, `O_APPEND`.
+const APPENDS: u32 = 0x400;
 
 /// To write, of what is asked of `faccessat`: `W_OK`.
 const TO_WRITE: u32 = 2;
@@ -62,7 +70,7 @@ impl<F: Folder> Files<F> {
         match self.folder.open(place, path, how) {
             Some(failed) => failed,
             None => {
-                self.descriptors.set(place, true);
+                self.descriptors.take(place, flags);
                 descriptor_at(place)
             }
         }
@@ -76,7 +84,7 @@ impl<F: Folder> Files<F> {
             return BAD_DESCRIPTOR;
         };
         self.folder.close(place);
-        self.descriptors.set(place, false);
+        self.descriptors.free(place);
         0
     }
 
@@ -91,6 +99,20 @@ impl<F: Folder> Files<F> {
             return READ_ONLY;
         }
         self.folder.change(place, change).unwrap_or(0)
+    }
+
+    /// Whether the file of a descriptor has an owner and a group already: the answer of the call
+    /// that gives it them.
+    pub fn own(&mut self, descriptor: u32, owner: u32, group: u32) -> u32
+        ensures { Owns F.did descriptor owner group self.old self.new result }
+    {
+        let Some(place) = self.descriptors.place_of(descriptor) else {
+            return BAD_DESCRIPTOR;
+        };
+        match self.folder.status(place) {
+            Err(error) => error,
+            Ok(status) => owning(&status, owner, group),
+        }
     }
 
     /// Changes the name that a path is, and gives the answer of the call.
@@ -134,11 +156,14 @@ impl<F: Folder> Files<F> {
     }
 
     /// Does a command of `fcntl` on a descriptor, and gives the answer of the call.
-    pub fn control(&self, descriptor: u32, command: u32) -> u32
-        ensures { Controls F.did descriptor command self.now self.now result }
+    pub fn control(&self, descriptor: u32, command: u32, argument: u32) -> u32
+        ensures { Controls F.did descriptor command argument self.now self.now result }
     {
+        if descriptor <= 2 {
+            return answer_to(flags_of_stream(descriptor), command, argument);
+        }
         match self.descriptors.place_of(descriptor) {
-            Some(_) => answer_to(command),
+            Some(place) => answer_to(self.descriptors.flags[place], command, argument),
             None => BAD_DESCRIPTOR,
         }
     }
@@ -185,14 +210,41 @@ fn is_kept(is_read_only: bool, change: Change) -> bool
     is_read_only && matches!(change, Change::Mode(_))
 }
 
-/// The answer to a command of `fcntl` on a descriptor that is open.
-fn answer_to(command: u32) -> u32
-    ensures { result ≡ control_answer command }
+/// The answer of a call that gives what has this status an owner and a group: it has them, or it
+/// doesn't get them.
+fn owning(status: &Status, owner: u32, group: u32) -> u32
+    ensures { result ≡ owning status.now owner group }
 {
-    if command == GET_FLAGS || command == SET_FLAGS {
+    if keeps(owner, status.owner) && keeps(group, status.group) {
         0
     } else {
-        BAD_ARGUMENT
+        NOT_PERMITTED
+    }
+}
+
+/// Whether an owner or a group stays the one it is.
+fn keeps(wanted: u32, present: u32) -> bool
+    ensures { result ≡ keeps wanted present }
+{
+    wanted == u32::MAX || wanted == present
+}
+
+/// How a standard stream is open: to be read, or to be written.
+fn flags_of_stream(descriptor: u32) -> u32
+    ensures { result ≡ stream_flags descriptor }
+{
+    if descriptor == 0 { 0 } else { 1 }
+}
+
+/// The answer to a command of `fcntl` on a descriptor that is open, with these flags.
+fn answer_to(flags: u32, command: u32, argument: u32) -> u32
+    ensures { result ≡ control_answer flags command argument }
+{
+    match command {
+        GET_FLAGS | SET_FLAGS => 0,
+        GET_STATUS => flags,
+        SET_STATUS if argument & APPENDS == flags & APPENDS => 0,
+        _ => BAD_ARGUMENT,
     }
 }
 
@@ -223,6 +275,18 @@ fn keeping(named: Named, change: NameChange) -> Option<u32>
         } else {
             Some(NO_DIRECTORY)
         },
+        NameChange::SetTimes(_, _) => timing(&status),
+    }
+}
+
+/// Why the times of what has this status aren't set, if they aren't.
+fn timing(status: &Status) -> Option<u32>
+    ensures { result ≡ timing status.now }
+{
+    match kind_of(status) {
+        IS_FILE | IS_DIRECTORY => None,
+        IS_SYMBOLIC => Some(IS_LINK),
+        _ => Some(ACCESS_DENIED),
     }
 }
 

@@ -82,6 +82,8 @@ pub enum NameChange {
     RemoveDirectory,
     /// A directory is made, with this mode.
     MakeDirectory(u32),
+    /// When a file or a directory was read last, and when it was written.
+    SetTimes(Moment, Moment),
 }
 
 /// The files below a folder of the host, of which up to 64 are open, each at a number from 0 to 63.

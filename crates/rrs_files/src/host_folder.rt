@@ -6,10 +6,11 @@
 
 use crate::folder::{Change, Folder, How, Moment, NameChange, Status};
 use std::alloc::Global;
-use std::fs::{DirBuilder, Metadata, OpenFile, OpenOptions, Permissions};
+use std::fs::{DirBuilder, FileTimes, Metadata, OpenFile, OpenOptions, Permissions};
 use std::io::{self, ErrorKind, Read, Seek, SeekFrom, Write};
 use std::os::unix::fs::{DirBuilderExt, MetadataExt, OpenOptionsExt, PermissionsExt};
 use std::rt::Files;
+use std::time::{Duration, SystemTime};
 
 /// How many files may be open.
 const MOST_OPEN: usize = 64;
@@ -127,6 +128,27 @@ fn status_of(told: &Metadata) -> Status {
 /// A number in 32 bits, or the largest one that they have.
 fn narrowed(number: u64) -> u32 {
     u32::try_from(number).unwrap_or(u32::MAX)
+}
+
+/// Sets the times of what a path of the host names, which is opened to be read.
+fn set_times<H: Files>(host: &H, path: &str, accessed: Moment, modified: Moment) -> io::Result<()> {
+    let times = FileTimes::new()
+        .set_accessed(time_of(accessed)?)
+        .set_modified(time_of(modified)?);
+    OpenOptions::new()
+        .read(true)
+        .open(host, path)?
+        .set_times(times)
+}
+
+/// A moment as the host has it. One before 1970 is refused.
+fn time_of(moment: Moment) -> io::Result<SystemTime> {
+    let whole = SystemTime::UNIX_EPOCH.checked_add(Duration::from_secs(moment.seconds));
+    let nanos = Duration::from_nanos(u64::from(moment.nanos));
+    match whole.and_then(|time| time.checked_add(nanos)) {
+        Some(time) => Ok(time),
+        None => Err(io::Error::from(ErrorKind::InvalidInput)),
+    }
 }
 
 /// A moment of the host.
@@ -259,6 +281,9 @@ impl<'h, 'p, H: Files + AllocGlobal> Folder for HostFolder<'h, 'p, H> {
             NameChange::RemoveDirectory => std::fs::remove_dir(self.host, &path),
             NameChange::MakeDirectory(mode) => {
                 DirBuilder::new().mode(mode).create(self.host, &path)
+            }
+            NameChange::SetTimes(accessed, modified) => {
+                set_times(self.host, &path, accessed, modified)
             }
         })
     }

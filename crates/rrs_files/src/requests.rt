@@ -2,7 +2,7 @@
 
 ghost use Rattle.std.specs.Prelude.{◌≡◌, ◌<◌, ℕ, Bool, Option};
 ghost use Rattle.rrs_lib.specs.Machine.{state_of};
-ghost use Rattle.rrs_files.specs.Requests.{AsksFile, AsksFileBy, TakesPath, how_of};
+ghost use Rattle.rrs_files.specs.Requests.{AsksFile, AsksFileBy, IsOfFiles, how_of};
 
 use crate::errors::{BAD_ARGUMENT, NO_SUCH_CALL};
 use crate::folder::{Change, How, NameChange};
@@ -22,6 +22,8 @@ const FTRUNCATE64: u32 = 46;
 const FACCESSAT: u32 = 48;
 /// `fchmod`.
 const FCHMOD: u32 = 52;
+/// `fchown`.
+const FCHOWN: u32 = 55;
 /// `openat`.
 const OPENAT: u32 = 56;
 /// `close`.
@@ -48,6 +50,8 @@ const FDATASYNC: u32 = 83;
 const RENAMEAT2: u32 = 276;
 /// `statx`.
 const STATX: u32 = 291;
+/// `utimensat_time64`.
+const UTIMENSAT: u32 = 412;
 
 /// The flag of `unlinkat` that removes a directory, `AT_REMOVEDIR`.
 const A_DIRECTORY_TOO: u32 = 0x200;
@@ -77,6 +81,9 @@ pub enum FileRequest {
     NamedStatus(u32, u32, u32, u32),
     /// To change the file of a descriptor.
     ChangeFile(u32, Change),
+    /// To give the file of a descriptor an owner and a group, of which `0xffff_ffff` leaves one as
+    /// it is.
+    Own(u32, u32, u32),
     /// To change a name: beside a descriptor, by the path at an address.
     ChangeName(u32, u32, NameChange),
     /// To give a file another name: beside a descriptor, by the path at an address, and both for
@@ -85,8 +92,11 @@ pub enum FileRequest {
     /// Whether a file may be read (4), written (2) or executed (1): beside a descriptor, by the
     /// path at an address, and a sum of these.
     Test(u32, u32, u32),
-    /// To do a command of `fcntl` on a descriptor.
-    Control(u32, u32),
+    /// To do a command of `fcntl` on a descriptor, with an argument.
+    Control(u32, u32, u32),
+    /// To set the times of a file: beside a descriptor, by the path at an address, and the times at
+    /// an address.
+    SetTimes(u32, u32, u32),
     /// To put the path of the working directory at an address, where there is room for so many
     /// bytes.
     Folder(u32, u32),
@@ -137,6 +147,9 @@ fn request_by(
         RENAMEAT2 => Some(FileRequest::Refused(BAD_ARGUMENT)),
         FACCESSAT if third <= 7 => Some(FileRequest::Test(first, second, third)),
         FACCESSAT => Some(FileRequest::Refused(BAD_ARGUMENT)),
+        UTIMENSAT if third != 0 && fourth == 0 => Some(FileRequest::SetTimes(first, second, third)),
+        UTIMENSAT => Some(FileRequest::Refused(BAD_ARGUMENT)),
+        FCNTL64 => Some(FileRequest::Control(first, second, third)),
         _ if first > 2 => request_on(call, first, second, third, fourth, fifth),
         _ => None,
     }
@@ -152,7 +165,7 @@ fn request_on(
     fourth: u32,
     fifth: u32,
 ) -> Option<FileRequest>
-    requires path { TakesPath call → ⊥ }
+    requires other { IsOfFiles call → ⊥ }
     requires file { 2 < first }
     ensures { AsksFileBy call first second third fourth fifth result }
 {
@@ -181,7 +194,7 @@ fn request_on(
         FSYNC => Some(FileRequest::ChangeFile(first, Change::Flush)),
         FDATASYNC => Some(FileRequest::ChangeFile(first, Change::FlushBytes)),
         FCHMOD => Some(FileRequest::ChangeFile(first, Change::Mode(second & 0o7777))),
-        FCNTL64 => Some(FileRequest::Control(first, second)),
+        FCHOWN => Some(FileRequest::Own(first, second, third)),
         STATX => Some(FileRequest::Refused(NO_SUCH_CALL)),
         _ => None,
     }

@@ -1,15 +1,17 @@
 //! An environment that serves the calls for files.
 
-ghost use Rattle.std.specs.Prelude.{◌≡◌, ◌<◌, ℕ, Bool, Option, None, IfOk, IfErr, Ok, Err, take, slice_index, true, false};
+ghost use Rattle.std.specs.Prelude.{◌≡◌, ◌<◌, ◌≤◌, ◌+◌, ℕ, Bool, Option, Some, None, length, IfOk, IfErr, Ok, Err, take, slice_index, true, false};
+ghost use Rattle.rrs_lib.specs.Bytes.{little_endian};
 ghost use Rattle.rrs_lib.specs.Machine.{state_of};
 ghost use Rattle.rrs_linux.specs.SystemCalls.{answered};
+ghost use Rattle.rrs_linux.specs.Transfers.{Stands};
 ghost use Rattle.rrs_fast.specs.Serving.{MakesSome};
 ghost use Rattle.rrs_files.specs.Acts.{ChangesName, Opens, Renames, Tests};
-ghost use Rattle.rrs_files.specs.Calls.{ByPath, ByPaths, DoesFile, ReadsFile, SeeksFile, ServesFiles, TakesPath, TellsFile, TellsFolder, TellsNamed, WritesFile, folder_answer, is_of_descriptor, naming};
+ghost use Rattle.rrs_files.specs.Calls.{ByPath, ByPaths, DoesFile, IsMoment, ReadsFile, SeeksFile, ServesFiles, SetsTimes, TakesPath, TakesTimes, TellsFile, TellsFolder, TellsNamed, WritesFile, folder_answer, is_of_descriptor, naming, times_of};
 
 use crate::errors::{BAD_ADDRESS, BAD_ARGUMENT, BAD_DESCRIPTOR, IS_LINK, NO_FILE, NO_ROOM};
 use crate::files::Files;
-use crate::folder::{Folder, NameChange, Status};
+use crate::folder::{Folder, Moment, NameChange, Status};
 use crate::paths::{IS_SYMBOLIC, Named, PATH_BYTES, kind_of, read_path, refusal_of, walk};
 use crate::requests::{FileRequest, file_request_of};
 use crate::statuses::status_bytes;
@@ -20,6 +22,12 @@ use rrs_linux::{copy_chunk, give_bytes, most_of, put_bytes};
 
 /// The most bytes that one call reads or writes of a file.
 const CHUNK: usize = 65_536;
+
+/// How many bytes two times have.
+const TIMES: u32 = 32;
+
+/// How many nanoseconds a second has.
+const SECOND: u32 = 1_000_000_000;
 
 /// The flag of a path whose last part may be a link, `AT_SYMLINK_NOFOLLOW`.
 const NO_FOLLOW: u32 = 0x100;
@@ -64,6 +72,7 @@ impl<F: Folder> Files<F> {
                 self.put_named(memory, beside, path, flags, address)
             }
             FileRequest::ChangeFile(descriptor, change) => self.change(descriptor, change),
+            FileRequest::Own(descriptor, owner, group) => self.own(descriptor, owner, group),
             FileRequest::ChangeName(beside, path, change) => {
                 self.change_name_at(memory, beside, path, change)
             }
@@ -71,7 +80,12 @@ impl<F: Folder> Files<F> {
                 self.rename_at(memory, beside, path, new_beside, new_path)
             }
             FileRequest::Test(beside, path, asked) => self.test_at(memory, beside, path, asked),
-            FileRequest::Control(descriptor, command) => self.control(descriptor, command),
+            FileRequest::Control(descriptor, command, argument) => {
+                self.control(descriptor, command, argument)
+            }
+            FileRequest::SetTimes(beside, path, times) => {
+                self.set_times(memory, beside, path, times)
+            }
             FileRequest::Folder(address, size) => put_folder(memory, address, size),
             FileRequest::Refused(answer) => answer,
         }
@@ -193,6 +207,22 @@ impl<F: Folder> Files<F> {
         match self.path_at(memory, beside, path, &mut text) {
             Err(error) => error,
             Ok(size) => self.test(&text[..size], asked),
+        }
+    }
+
+    /// Sets the times of what the path at an address names to those at an address, and gives the
+    /// answer of the call.
+    fn set_times<M: Memory>(&mut self, memory: &mut M, beside: u32, path: u32, times: u32) -> u32
+        ensures does { MakesSome M.reads M.writes
+            (SetsTimes F.did (M.writable memory.old) (M.bytes memory.old) (M.bytes memory.new)
+            beside path times self.old self.new result)
+            memory.old memory.new }
+        ensures writable_kept { M.writable memory.new ≡ M.writable memory.old }
+        ensures layout_kept { M.layout memory.new ≡ M.layout memory.old }
+    {
+        match times_at(memory, times) {
+            Err(error) => error,
+            Ok(change) => self.change_name_at(memory, beside, path, change),
         }
     }
 
@@ -337,6 +367,60 @@ impl<F: Folder> Files<F> {
             },
         }
     }
+}
+
+/// Reads the two times at an address, and gives the change to them, or the error.
+fn times_at<M: Memory>(memory: &mut M, address: u32) -> Result<NameChange, u32>
+    ensures taken { MakesSome M.reads M.writes
+        (TakesTimes (M.bytes memory.old) address result) memory.old memory.new }
+    ensures bytes_kept { M.bytes memory.new ≡ M.bytes memory.old }
+    ensures writable_kept { M.writable memory.new ≡ M.writable memory.old }
+    ensures layout_kept { M.layout memory.new ≡ M.layout memory.old }
+{
+    if u64::from(address) + u64::from(TIMES) > 1 << 32 {
+        return Err(BAD_ADDRESS);
+    }
+    let mut bytes = [0; TIMES as usize];
+    if copy_chunk(memory, address, TIMES, &mut bytes) < TIMES {
+        return Err(BAD_ADDRESS);
+    }
+    times_of(moment_in(&bytes, 0), moment_in(&bytes, 16))
+}
+
+/// The change to two times, or the error.
+fn times_of(accessed: Moment, modified: Moment) -> Result<NameChange, u32>
+    ensures { result ≡ times_of accessed modified }
+{
+    if accessed.nanos >= SECOND || modified.nanos >= SECOND {
+        Err(BAD_ARGUMENT)
+    } else {
+        Ok(NameChange::SetTimes(accessed, modified))
+    }
+}
+
+/// The moment at a place of two times.
+fn moment_in(bytes: &[u8], at: usize) -> Moment
+    requires { at + 12 ≤ length bytes.now }
+    ensures { (memory : ℕ → Option ℕ) (a : ℕ) → Stands memory a bytes.now
+        → IsMoment memory (a + at) result }
+{
+    let low = word_in(bytes, at);
+    let high = word_in(bytes, at + 4);
+    Moment {
+        seconds: u64::from(high) * (1 << 32) + u64::from(low),
+        nanos: word_in(bytes, at + 8),
+    }
+}
+
+/// The word at a place of some bytes, the lowest first.
+fn word_in(bytes: &[u8], at: usize) -> u32
+    requires { at + 4 ≤ length bytes.now }
+    ensures { (memory : ℕ → Option ℕ) (a : ℕ) → Stands memory a bytes.now
+        → little_endian memory (a + at) 4 ≡ Some result }
+{
+    let low = u32::from(bytes[at]) + 0x100 * u32::from(bytes[at + 1]);
+    let high = u32::from(bytes[at + 2]) + 0x100 * u32::from(bytes[at + 3]);
+    low + 0x1_0000 * high
 }
 
 /// Puts the path of the working directory into memory, and gives the answer of the call.

@@ -1,7 +1,7 @@
 //! Files, by a runtime. Each call is that of Rust's `std::fs` of its name.
 
 use crate::rt::Files;
-pub use host::fs::{Metadata, Permissions};
+pub use host::fs::{FileTimes, Metadata, Permissions};
 use host::path::PathBuf;
 use host::{fs, io};
 
@@ -78,6 +78,9 @@ pub trait OpenFile {
 
     /// Sets who may do what with it.
     fn set_permissions(&self, to: Permissions) -> io::Result<()>;
+
+    /// Sets when it was read last, and written.
+    fn set_times(&self, to: FileTimes) -> io::Result<()>;
 }
 
 impl OpenFile for fs::File {
@@ -103,6 +106,10 @@ impl OpenFile for fs::File {
 
     fn set_permissions(&self, to: Permissions) -> io::Result<()> {
         fs::File::set_permissions(self, to)
+    }
+
+    fn set_times(&self, to: FileTimes) -> io::Result<()> {
+        fs::File::set_times(self, to)
     }
 }
 

@@ -3,7 +3,8 @@
 use crate::rt::HostRuntime;
 pub use core::time::Duration;
 use host::sync::OnceLock;
-use host::time::{Instant, SystemTime};
+use host::time::Instant;
+pub use host::time::SystemTime;
 use host::{fs, io};
 
 /// What has clocks.

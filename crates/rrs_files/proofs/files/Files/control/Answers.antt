@@ -3,4 +3,5 @@ use Rattle.rrs_files.specs.Acts.{IsControlled}
 use Rattle.rrs_files.proofs.files.Files.control.Goals as goal
 
 pub returns-in-Some : goal.returns-in-Some
-returns-in-Some g c = IsControlled _ c.in-Some.ensures refl c.answer_to.ensures
+returns-in-Some g c =
+    IsControlled c.in-Some.place c.in-Some.ensures refl c.answer_to-in-Some.ensures

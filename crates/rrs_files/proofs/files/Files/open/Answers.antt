@@ -30,5 +30,8 @@ returns-in-None-open g c =
     (ap (λ h. only && changes h) (sym how) ∙ sym c.is_kept_out.ensures ∙ c.if-is_kept_out.false) c.in-Some.ensures
     c.walk.ensures (ap (opening c.walk.result) (sym how) ∙ sym c.in-None-opening.ensures)
     (rw how at c.in-None-open.ensures)
-    (λ i. record c.args.self.now { folder = c.open.new.self; descriptors = record { are_open = c.set.ensures i } })
+    (λ i. record c.args.self.now {
+      folder = c.open.new.self;
+      descriptors = record { are_open = c.take.ensures.taken i; flags = c.take.ensures.noted i };
+    })
     c.descriptor_at.ensures

@@ -33,6 +33,13 @@ pub returns-in-ChangeFile-clause-does : goal.returns-in-ChangeFile-clause-does
 returns-in-ChangeFile-clause-does g c =
     rw c.in-ChangeFile.is (record { accesses = []; these = (c.change.ensures, refl, refl); made = refl })
 
+pub returns-in-Own-clause-does : goal.returns-in-Own-clause-does
+returns-in-Own-clause-does g c =
+    rw c.in-Own.is (record { accesses = []; these = (c.own.ensures, refl, refl); made = refl })
+
+pub returns-in-SetTimes-clause-does : goal.returns-in-SetTimes-clause-does
+returns-in-SetTimes-clause-does g c = rw c.in-SetTimes.is c.set_times.ensures.does
+
 pub returns-in-ChangeName-clause-does : goal.returns-in-ChangeName-clause-does
 returns-in-ChangeName-clause-does g c = rw c.in-ChangeName.is c.change_name_at.ensures.does
 
