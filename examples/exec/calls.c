@@ -33,6 +33,8 @@ static long call(long number, long a, long b, long c)
     return a0;
 }
 
+// library.c has these for pipes too.
+#ifndef WITH_LIBRARY
 ssize_t write(int fd, const void *bytes, size_t count)
 {
     return call(64, fd, (long)bytes, count);
@@ -47,6 +49,7 @@ int close(int fd)
 {
     return call(57, fd, 0, 0);
 }
+#endif
 
 void _exit(int status)
 {

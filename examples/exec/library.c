@@ -69,6 +69,28 @@ static void *none(int error)
     return NULL;
 }
 
+// The ends of the pipes that are made here have numbers above those of Linux. pipe sets what is
+// done to them, so that a program without a pipe has none of it.
+#define FIRST_END 1024
+enum of_end { READ_END, WRITE_END, CLOSE_END };
+static long (*does_to_end)(int fd, enum of_end what, void *bytes, size_t size);
+
+ssize_t read(int fd, void *bytes, size_t size)
+{
+    return fd >= FIRST_END && does_to_end ? does_to_end(fd, READ_END, bytes, size)
+                                          : call(63, fd, (long)bytes, size, 0, 0);
+}
+ssize_t write(int fd, const void *bytes, size_t size)
+{
+    return fd >= FIRST_END && does_to_end ? does_to_end(fd, WRITE_END, (void *)bytes, size)
+                                          : call(64, fd, (long)bytes, size, 0, 0);
+}
+int close(int fd)
+{
+    return fd >= FIRST_END && does_to_end ? does_to_end(fd, CLOSE_END, NULL, 0)
+                                          : call(57, fd, 0, 0, 0, 0);
+}
+
 // Files, which are served with --files.
 
 // picolibc has other numbers than Linux for the flags of open.
@@ -77,17 +99,23 @@ static const int linux_flags[][2] = {
     {O_DIRECTORY, 0x10000}, {O_NOFOLLOW, 0x20000}, {O_CLOEXEC, 0x80000},
 };
 
+// Flags by the other numbers: those of Linux (1), or picolibc's (0).
+static int flags_of(int flags, int of_linux)
+{
+    int others = flags & O_ACCMODE;
+    for (size_t i = 0; i < sizeof linux_flags / sizeof *linux_flags; i++) {
+        others |= flags & linux_flags[i][!of_linux] ? linux_flags[i][of_linux] : 0;
+    }
+    return others;
+}
+
 int open(const char *path, int flags, ...)
 {
     va_list more;
     va_start(more, flags);
     int mode = flags & O_CREAT ? va_arg(more, int) : 0;
     va_end(more);
-    int of_linux = flags & O_ACCMODE;
-    for (size_t i = 0; i < sizeof linux_flags / sizeof *linux_flags; i++) {
-        of_linux |= flags & linux_flags[i][0] ? linux_flags[i][1] : 0;
-    }
-    return call(56, HERE, (long)path, of_linux, mode, 0);
+    return call(56, HERE, (long)path, flags_of(flags, 1), mode, 0);
 }
 
 int unlink(const char *path)
@@ -154,9 +182,11 @@ ssize_t pwrite(int fd, const void *bytes, size_t size, off_t from)
 int access(const char *path, int mode) { return call(48, HERE, (long)path, mode, 0, 0); }
 int chdir(const char *path) { return call(49, (long)path, 0, 0, 0, 0); }
 int chmod(const char *path, mode_t mode) { return call(53, HERE, (long)path, mode, 0, 0); }
+// An owner of picolibc has 16 bits, of which Linux would not know the one that leaves it as it is.
+static long owner_of(unsigned short number) { return number == 0xffff ? -1 : number; }
 int chown(const char *path, uid_t user, gid_t group)
 {
-    return call(54, HERE, (long)path, user, group, 0);
+    return call(54, HERE, (long)path, owner_of(user), owner_of(group), 0);
 }
 int link(const char *from, const char *to)
 {
@@ -187,22 +217,19 @@ char *getcwd(char *bytes, size_t size)
     return call(17, (long)bytes, size, 0, 0, 0) < 0 ? NULL : bytes;
 }
 
-static int set_times(const char *path, long long read, long long written)
+int utimes(const char *path, const struct timeval times[2])
 {
-    long long times[4] = {read, 0, written, 0};
-    return call(412, HERE, (long)path, (long)times, 0, 0);
+    long long moments[4];
+    for (int i = 0; times && i < 2; i++) {
+        moments[2 * i] = times[i].tv_sec;
+        moments[2 * i + 1] = times[i].tv_usec * 1000;
+    }
+    return call(412, HERE, (long)path, times ? (long)moments : 0, 0, 0);
 }
 
 int utime(const char *path, const struct utimbuf *times)
 {
-    return times ? set_times(path, times->actime, times->modtime)
-                 : call(412, HERE, (long)path, 0, 0, 0);
-}
-
-int utimes(const char *path, const struct timeval times[2])
-{
-    return times ? set_times(path, times[0].tv_sec, times[1].tv_sec)
-                 : call(412, HERE, (long)path, 0, 0, 0);
+    return utimes(path, times ? (struct timeval[]){{times->actime, 0}, {times->modtime, 0}} : NULL);
 }
 
 // Descriptors.
@@ -212,25 +239,142 @@ int dup2(int fd, int to)
     return fd == to ? fcntl(fd, F_GETFD) < 0 ? -1 : to : call(24, fd, to, 0, 0, 0);
 }
 int fchmod(int fd, mode_t mode) { return call(52, fd, mode, 0, 0, 0); }
-int fchown(int fd, uid_t user, gid_t group) { return call(55, fd, user, group, 0, 0); }
+int fchown(int fd, uid_t user, gid_t group)
+{
+    return call(55, fd, owner_of(user), owner_of(group), 0, 0);
+}
 int fdatasync(int fd) { return call(83, fd, 0, 0, 0, 0); }
 int fsync(int fd) { return call(82, fd, 0, 0, 0, 0); }
 int ftruncate(int fd, off_t length)
 {
     return call(46, fd, length, (long long)length >> 32, 0, 0);
 }
-int pipe(int ends[2]) { return call(59, (long)ends, 0, 0, 0, 0); }
 
-// picolibc has other numbers than Linux for the locks, the owner and F_DUPFD_CLOEXEC, and other
-// bits for the status: these commands are refused.
+// A pipe of one process is a buffer of as many bytes as Linux has. Where one would wait for another
+// process, there is none, and errno is EAGAIN.
+#define PIPE_SIZE 65536
+static struct pipe {
+    int is_open[2];
+    int flags[2];
+    size_t size;
+    char bytes[PIPE_SIZE];
+} *pipes[8];
+
+static long do_to_end(int fd, enum of_end what, void *bytes, size_t size)
+{
+    size_t at = (fd - FIRST_END) / 2;
+    int end = fd % 2;
+    struct pipe *of = at < sizeof pipes / sizeof *pipes ? pipes[at] : NULL;
+    if (!of || !of->is_open[end] || (what != CLOSE_END && end != (what == WRITE_END))) {
+        return fail(EBADF);
+    }
+    if (what == CLOSE_END) {
+        of->is_open[end] = 0;
+        if (!of->is_open[!end]) {
+            free(of);
+            pipes[at] = NULL;
+        }
+        return 0;
+    }
+    if (what == READ_END) {
+        if (of->size == 0 && size > 0 && of->is_open[1]) {
+            return fail(EAGAIN);
+        }
+        size = size < of->size ? size : of->size;
+        memcpy(bytes, of->bytes, size);
+        of->size -= size;
+        memmove(of->bytes, of->bytes + size, of->size);
+        return size;
+    }
+    if (!of->is_open[0]) {
+        raise(SIGPIPE);
+        return fail(EPIPE);
+    }
+    // what is no longer than 4096 bytes is written at once
+    size_t left = PIPE_SIZE - of->size;
+    if (size > left && (left == 0 || size <= 4096)) {
+        return fail(EAGAIN);
+    }
+    size = size < left ? size : left;
+    memcpy(of->bytes + of->size, bytes, size);
+    of->size += size;
+    return size;
+}
+
+int pipe(int ends[2])
+{
+    int before = errno;
+    if (call(59, (long)ends, 0, 0, 0, 0) == 0) {
+        return 0;
+    }
+    if (errno != ENOSYS) {
+        return -1;
+    }
+    for (size_t at = 0; at < sizeof pipes / sizeof *pipes; at++) {
+        if (pipes[at]) {
+            continue;
+        }
+        if (!(pipes[at] = calloc(1, sizeof *pipes[at]))) {
+            return fail(ENFILE);
+        }
+        pipes[at]->is_open[0] = pipes[at]->is_open[1] = 1;
+        ends[0] = FIRST_END + 2 * at;
+        ends[1] = ends[0] + 1;
+        does_to_end = do_to_end;
+        errno = before;
+        return 0;
+    }
+    return fail(EMFILE);
+}
+
+// The flags of an end of a pipe that is made here, or NULL.
+static int *flags_of_end(int fd)
+{
+    size_t at = (fd - FIRST_END) / 2;
+    struct pipe *of = fd >= FIRST_END && at < sizeof pipes / sizeof *pipes ? pipes[at] : NULL;
+    return of && of->is_open[fd % 2] ? &of->flags[fd % 2] : NULL;
+}
+
+// A lock is granted, since there is one process. The other commands have Linux's numbers up to
+// F_SETFL; picolibc's others are refused.
 int fcntl(int fd, int command, ...)
 {
     va_list more;
     va_start(more, command);
     long argument = va_arg(more, long);
     va_end(more);
-    return command >= F_DUPFD && command <= F_SETFD ? call(25, fd, command, argument, 0, 0)
-                                                    : fail(ENOSYS);
+    int *flags = flags_of_end(fd);
+    if (!flags && does_to_end && fd >= FIRST_END) {
+        return fail(EBADF);
+    }
+    switch (command) {
+    case F_GETLK:
+    case F_SETLK:
+    case F_SETLKW:
+        if (call(25, fd, F_GETFD, 0, 0, 0) < 0) {
+            return -1;
+        }
+        if (command == F_GETLK) {
+            ((struct flock *)argument)->l_type = F_UNLCK;
+        }
+        return 0;
+    case F_GETFL: {
+        int of_linux = flags ? 0 : call(25, fd, command, 0, 0, 0);
+        return flags ? *flags | fd % 2 : of_linux < 0 ? -1 : flags_of(of_linux, 0);
+    }
+    case F_SETFL:
+        if (flags) {
+            *flags = argument & O_NONBLOCK;
+            return 0;
+        }
+        return call(25, fd, command, flags_of(argument, 1), 0, 0);
+    case F_GETFD:
+    case F_SETFD:
+        return flags ? 0 : call(25, fd, command, argument, 0, 0);
+    case F_DUPFD:
+        return call(25, fd, command, argument, 0, 0);
+    }
+    return fail(ENOSYS);
 }
 
 int ioctl(int fd, unsigned long request, ...)
@@ -251,8 +395,8 @@ int isatty(int fd)
 
 int poll(struct pollfd *of, nfds_t count, int wait)
 {
-    (void)of, (void)count, (void)wait;
-    return fail(ENOSYS);
+    long long time[2] = {wait / 1000, wait % 1000 * 1000000};
+    return call(414, (long)of, count, wait < 0 ? 0 : (long)time, 0, 0);
 }
 
 // Folders are not read.

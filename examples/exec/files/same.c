@@ -4,6 +4,7 @@
 #include <stdio.h>
 #include <string.h>
 #include <sys/stat.h>
+#include <sys/time.h>
 #include <unistd.h>
 int main(int argc, char **argv)
 {
@@ -138,6 +139,38 @@ int main(int argc, char **argv)
     printf("getcwd %d", getcwd(here, 1) == NULL);
     printf(" %d", errno);
     printf(" %d\n", getcwd(here, sizeof here) == here && here[0] == '/');
+    // how a file is open, its owner, its times, and locks, which are granted
+    int how = open("keep", O_RDWR | O_APPEND | O_CREAT, 0600);
+    printf("open %x", fcntl(how, F_GETFL) & (O_ACCMODE | O_APPEND));
+    printf(" set %d %d", fcntl(how, F_SETFL, O_APPEND | O_NONBLOCK), fcntl(how, 999, 0));
+    printf(" %x", fcntl(how, F_GETFL) & (O_ACCMODE | O_APPEND));
+    printf(" output %x", fcntl(1, F_GETFL) & O_ACCMODE);
+    printf(" input %d %d\n", fcntl(0, F_GETFD), fcntl(0, F_SETFD, 0));
+    fstat(how, &st);
+    printf("fchown %d", fchown(how, st.st_uid, st.st_gid));
+    printf(" %d %d", fchown(how, -1, -1), fchown(50, -1, -1));
+    printf(" %d\n", errno);
+    struct flock lock = {.l_type = F_WRLCK, .l_whence = SEEK_SET};
+    printf("lock %d", fcntl(how, F_SETLK, &lock));
+    printf(" %d", fcntl(how, F_GETLK, &lock));
+    printf(" %d", lock.l_type == F_UNLCK);
+    printf(" %d", fcntl(50, F_SETLK, &lock));
+    printf(" %d\n", errno);
+    close(how);
+    printf("again %x\n", fcntl(how = open("keep", O_RDONLY), F_GETFL) & (O_ACCMODE | O_APPEND));
+    close(how);
+    const char *timed[] = {"keep", "dir", "nothing", "keep/x", "", "dir/in"};
+    for (int i = 0; i < (int)(sizeof timed / sizeof *timed); i++) {
+        struct timeval times[2] = {{1000000000 + i, 250000}, {1234567890 + i, 999999}};
+        errno = 0;
+        printf("utimes %s: %d", timed[i], utimes(timed[i], times));
+        printf(" errno %d", errno);
+        printf(" %d", stat(timed[i], &st));
+        printf(" %ld\n", i == 2 || i == 3 || i == 4 ? 0L : (long)st.st_mtime);
+    }
+    struct timeval wrong[2] = {{0, 0}, {0, 1000000}};
+    printf("utimes %d", utimes("keep", wrong));
+    printf(" %d\n", errno);
     int fds[20], k;
     for (k = 0; k < 20; k++) {
         fds[k] = open("keep", O_RDWR | O_CREAT, 0600);

@@ -22,8 +22,8 @@
 
 static const char *const names[] = {
     [0] = "no error", [ENOENT] = "ENOENT", [EBADF] = "EBADF", [ECHILD] = "ECHILD",
-    [EINVAL] = "EINVAL", [ENOTTY] = "ENOTTY", [ERANGE] = "ERANGE", [ENOSYS] = "ENOSYS",
-    [ENAMETOOLONG] = "ENAMETOOLONG",
+    [EAGAIN] = "EAGAIN", [EINVAL] = "EINVAL", [ENOTTY] = "ENOTTY", [ERANGE] = "ERANGE",
+    [ENOSYS] = "ENOSYS", [ENAMETOOLONG] = "ENAMETOOLONG",
 };
 
 static void says(const char *what, long answer)
@@ -74,12 +74,41 @@ static void descriptors(void)
     SAYS(fchown(9, 0, 0));
     SAYS(fcntl(1, F_GETFD));
     SAYS(fcntl(9, F_GETFD));
-    SAYS(fcntl(1, F_GETFL));
+    SAYS(fcntl(9, F_GETFL));
+    SAYS(fcntl(9, F_SETFL, 0));
+    SAYS(fcntl(9, F_SETLK, NULL));
+    SAYS(fcntl(1, F_GETOWN));
     SAYS(fdatasync(9));
     SAYS(fsync(9));
     SAYS(ftruncate(9, 0));
-    SAYS(pipe(ends));
     SAYS(poll(NULL, 0, 0));
+    SAYS(pipe(ends));
+    SAYS(fcntl(ends[0], F_SETFL, fcntl(ends[0], F_GETFL) | O_NONBLOCK));
+    SAYS(fcntl(ends[1], F_SETFL, fcntl(ends[1], F_GETFL) | O_NONBLOCK));
+    SAYS(fcntl(ends[0], F_GETFL) & (O_ACCMODE | O_NONBLOCK));
+    SAYS(fcntl(ends[1], F_GETFL) & (O_ACCMODE | O_NONBLOCK));
+    SAYS(read(ends[0], room, 5));
+    SAYS(write(ends[1], "two words", 9));
+    SAYS(write(ends[0], "two words", 9));
+    SAYS(read(ends[1], room, 5));
+    SAYS(read(ends[0], room, 5));
+    SAYS(memcmp(room, "two w", 5));
+    int whole = 0;
+    while (write(ends[1], room, sizeof room) == sizeof room) {
+        whole++;
+    }
+    SAYS(whole >= 14);
+    SAYS(write(ends[1], room, sizeof room));
+    while (read(ends[0], room, sizeof room) == sizeof room) {
+    }
+    SAYS(read(ends[0], room, 5));
+    SAYS(write(ends[1], "end", 3));
+    SAYS(close(ends[1]));
+    SAYS(close(ends[1]));
+    SAYS(read(ends[0], room, sizeof room));
+    SAYS(read(ends[0], room, sizeof room));
+    SAYS(close(ends[0]));
+    SAYS(fcntl(ends[0], F_GETFL));
 }
 
 static void users_and_processes(void)
