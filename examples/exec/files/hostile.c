@@ -1,48 +1,74 @@
-// Makes the calls that its input asks for, a line for each: a letter, and a path in hexadecimal.
+// Makes the calls that its input asks for, a line for each: a letter, a place of an open file, a
+// blank, and a path in hexadecimal.
 #include <errno.h>
 #include <fcntl.h>
 #include <stdio.h>
-#include <string.h>
 #include <sys/stat.h>
 #include <unistd.h>
+#include <utime.h>
 
 static char line[20000], path[10000], bytes[64];
+static int places[8] = {-1, -1, -1, -1, -1, -1, -1, -1};
+
+static int value(int digit)
+{
+    return digit <= '9' ? digit - '0' : digit - 'a' + 10;
+}
+
+// Opens a file at a place, where no other is open then.
+static int opens(int *place, int flags, int mode)
+{
+    close(*place);
+    return *place = open(path, flags, mode);
+}
+
+static long long does(int call, int *place)
+{
+    struct stat status = {0};
+    struct utimbuf times = {1, 2};
+    long long answer;
+    switch (call) {
+    case 'r': return opens(place, O_RDONLY, 0);
+    case 'w': return opens(place, O_RDWR | O_CREAT | O_TRUNC, 0644);
+    case 'a': return opens(place, O_WRONLY | O_APPEND, 0);
+    case 'x': return opens(place, O_RDWR | O_CREAT | O_EXCL, 0600);
+    case 'u': return unlink(path);
+    case 's': return stat(path, &status) == 0 ? (long long)status.st_mode : -1;
+    case 'l': return lstat(path, &status) == 0 ? (long long)status.st_mode : -1;
+    case 'm': return mkdir(path, 0755);
+    case 'd': return rmdir(path);
+    case 'n': return rename(path, "f0");
+    case 'o': return rename("f1", path);
+    case 'c': return access(path, R_OK | W_OK);
+    case 't': return utime(path, &times);
+    case 'k': return symlink(path, "made");
+    case 'h': return link(path, "made");
+    case 'i': return readlink(path, bytes, sizeof bytes);
+    case 'C': answer = close(*place); *place = -1; return answer;
+    case 'R': return read(*place, bytes, sizeof bytes - 1);
+    case 'W': return write(*place, "MARK", 4);
+    case 'S': return lseek(*place, 2, SEEK_SET);
+    case 'E': return lseek(*place, 0, SEEK_END);
+    case 'T': return ftruncate(*place, 5);
+    case 'F': return fstat(*place, &status) == 0 ? (long long)status.st_size : -1;
+    case 'G': return fcntl(*place, F_GETFL);
+    }
+    return -2;
+}
 
 int main(void)
 {
     while (fgets(line, sizeof line, stdin)) {
         size_t length = 0;
-        unsigned byte;
-        for (char *at = line + 2; sscanf(at, "%2x", &byte) == 1; at += 2) {
-            path[length++] = byte;
+        for (const char *at = line + 3; at[0] > '\n' && at[1] > '\n'; at += 2) {
+            path[length++] = value(at[0]) * 16 + value(at[1]);
         }
         path[length] = 0;
-        struct stat status;
-        int fd = -1, answer = -2;
         errno = 0;
-        switch (line[0]) {
-        case 'r': fd = answer = open(path, O_RDONLY); break;
-        case 'w': fd = answer = open(path, O_WRONLY | O_CREAT | O_TRUNC, 0644); break;
-        case 'a': fd = answer = open(path, O_WRONLY | O_APPEND); break;
-        case 'x': fd = answer = open(path, O_RDWR | O_CREAT | O_EXCL, 0600); break;
-        case 'u': answer = unlink(path); break;
-        case 's': answer = stat(path, &status); break;
-        case 'l': answer = lstat(path, &status); break;
-        case 'm': answer = mkdir(path, 0755); break;
-        case 'd': answer = rmdir(path); break;
-        case 'n': answer = rename(path, "new"); break;
-        case 'o': answer = rename("file", path); break;
-        case 'c': answer = access(path, R_OK | W_OK); break;
-        case 'k': answer = symlink(path, "made"); break;
-        }
-        int error = errno;
-        printf("%c %d %d", line[0], answer, error);
-        if (fd >= 0) {
-            int count = read(fd, bytes, sizeof bytes - 1);
-            bytes[count > 0 ? count : 0] = 0;
-            printf(" %s", count > 0 ? bytes : "");
-            write(fd, "MARK", 4);
-            close(fd);
+        long long answer = does(line[0], &places[line[1] & 7]);
+        printf("%c %lld %d", line[0], answer, errno);
+        if (line[0] == 'R' && answer > 0) {
+            printf(" %.*s", (int)answer, bytes);
         }
         printf("\n");
     }
