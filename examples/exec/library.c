@@ -23,6 +23,7 @@
 #include <sys/times.h>
 #include <sys/utsname.h>
 #include <sys/wait.h>
+#include <termios.h>
 #include <time.h>
 #include <unistd.h>
 #include <utime.h>
@@ -386,11 +387,17 @@ int ioctl(int fd, unsigned long request, ...)
     return call(29, fd, request, argument, 0, 0);
 }
 
-// By TCGETS, which a terminal alone answers.
+// TCGETS, which a terminal alone answers, and TCSETS and those after it.
+int tcgetattr(int fd, struct termios *terminal) { return ioctl(fd, 0x5401, terminal); }
+int tcsetattr(int fd, int when, const struct termios *terminal)
+{
+    return when < TCSANOW || when > TCSAFLUSH ? fail(EINVAL) : ioctl(fd, 0x5402 + when, terminal);
+}
+
 int isatty(int fd)
 {
-    char terminal[64];
-    return ioctl(fd, 0x5401, terminal) == 0;
+    struct termios terminal;
+    return tcgetattr(fd, &terminal) == 0;
 }
 
 int poll(struct pollfd *of, nfds_t count, int wait)
@@ -463,6 +470,21 @@ int execv(const char *path, char *const arguments[])
     return fail(ENOSYS);
 }
 int execvp(const char *path, char *const arguments[]) { return execv(path, arguments); }
+int execve(const char *path, char *const arguments[], char *const names[])
+{
+    (void)names;
+    return execv(path, arguments);
+}
+int execl(const char *path, const char *argument, ...)
+{
+    (void)path, (void)argument;
+    return fail(ENOSYS);
+}
+int execlp(const char *path, const char *argument, ...)
+{
+    (void)path, (void)argument;
+    return fail(ENOSYS);
+}
 FILE *popen(const char *command, const char *mode)
 {
     (void)command, (void)mode;
@@ -596,6 +618,14 @@ long sysconf(int name)
         return FOPEN_MAX;
     }
     return fail(EINVAL);
+}
+
+long pathconf(const char *path, int name)
+{
+    (void)path;
+    return name == _PC_NAME_MAX                           ? 255
+           : name == _PC_PATH_MAX || name == _PC_PIPE_BUF ? 4096
+                                                          : fail(EINVAL);
 }
 
 // Memory comes from brk alone, by malloc.

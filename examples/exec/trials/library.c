@@ -16,6 +16,7 @@
 #include <sys/time.h>
 #include <sys/utsname.h>
 #include <sys/wait.h>
+#include <termios.h>
 #include <time.h>
 #include <unistd.h>
 #include <utime.h>
@@ -65,9 +66,13 @@ static void paths(void)
 
 static void descriptors(void)
 {
+    struct termios terminal = {.c_cflag = CS8};
     int ends[2];
     SAYS(isatty(0));
     SAYS(isatty(9));
+    SAYS(tcgetattr(0, &terminal));
+    SAYS(tcsetattr(0, TCSANOW, &terminal));
+    SAYS(tcsetattr(0, 3, &terminal));
     SAYS(dup(9));
     SAYS(dup2(9, 8));
     SAYS(fchmod(9, 0600));
@@ -124,6 +129,9 @@ static void users_and_processes(void)
     SAYS(fork());
     SAYS(execv("none", words));
     SAYS(execvp("none", words));
+    SAYS(execve("none", words, words));
+    SAYS(execl("none", "none", NULL));
+    SAYS(execlp("none", "none", NULL));
     GIVES(popen("none", "r"));
     SAYS(pclose(stdin));
     SAYS(wait(NULL));
@@ -170,6 +178,8 @@ static void time_and_machine(void)
     SAYS(sysconf(_SC_PAGESIZE));
     SAYS(sysconf(_SC_NPROCESSORS_ONLN));
     SAYS(sysconf(999));
+    SAYS(pathconf("/", _PC_PATH_MAX));
+    SAYS(pathconf("/", 999));
     SAYS(mmap(NULL, 4096, PROT_READ, MAP_PRIVATE | MAP_ANONYMOUS, -1, 0) == MAP_FAILED);
     SAYS(munmap(NULL, 4096));
 }
