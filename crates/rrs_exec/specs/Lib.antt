@@ -8,6 +8,8 @@ pub mod Protection
 pub mod InitialStack
 pub mod Layouts
 pub mod Images
+pub mod Mending
+pub mod MendedRounds
 pub mod Processes
 pub mod Watching
 pub mod Progress

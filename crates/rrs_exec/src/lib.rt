@@ -9,7 +9,8 @@
 //!
 //! [load_process] makes a process of the bytes of an ELF file: its image, and its memory. [execute_process] runs it and serves its system calls. What that is, is written in
 //! `specs/Processes.antt`. [watch_process] shows each step of such a run to a [Watcher],
-//! as `specs/Watching.antt` says. Both tell a [Progress] of the steps, of which their contracts say
+//! as `specs/Watching.antt` says. [run_mended] goes on after misaligned loads and stores and after
+//! instructions of extension A, as `specs/Mending.antt` says. Both tell a [Progress] of the steps, of which their contracts say
 //! nothing, and that of [InPieces] all.
 
 #![tactic(auto)]
@@ -17,6 +18,7 @@
 mod image;
 mod layout;
 mod marks;
+mod mending;
 mod process;
 mod process_memory;
 mod progress;
@@ -27,6 +29,7 @@ mod watching;
 pub use image::{Image, ImageError, fill, image_of, needed_memory};
 pub use layout::{Layout, layout_of};
 pub use marks::{PAGE_BYTES, PageRange, Protection, marks_of};
+pub use mending::{mend, run_mended};
 pub use process::{
     DECODED_WORDS, KeptMemory, LoadedProcess, ProcessEnd, WATCHED_WORDS, execute_process,
     load_process, started,

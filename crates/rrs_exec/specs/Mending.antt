@@ -1,0 +1,182 @@
+-- How a hart goes on where the kit's step faults at a load or a store of a misaligned address, or
+-- at an instruction of extension A (RISC-V unprivileged specification, "Load and Store
+-- Instructions": an execution environment may support misaligned loads and stores fully, and need
+-- not make each at once; Linux does so for a process), and runs of programs that go on so.
+use Rattle.std.specs.Prelude.{◌≡◌, ℕ, zero, suc, ◌+◌, ◌-◌, ◌/◌, ◌^◌, nat_lt, if◌then◌else◌, List, [], ◌∷◌, ◌++◌, pos, Bool, true, false, Option, Some, None, Ok, Err}
+use Rattle.rrs_instruction.specs.declared.instruction_formats.RType.{RType}
+use Rattle.rrs_instruction.specs.Encodings.{Fields, I, S}
+use Rattle.rrs_instruction.specs.Table.{Row, table, Action, Load, Store, Decodes}
+use Rattle.rrs_instruction.specs.Words.{word}
+use Rattle.rrs_memory.specs.declared.MemAccessSize.TheVariants.{Byte, Word}
+use Rattle.rrs_memory.specs.Bytes.{ByteMap, little_endian, all_writable}
+use Rattle.rrs_lib.specs.declared.instruction_executor.InstructionException.{InstructionException}
+use Rattle.rrs_lib.specs.declared.instruction_executor.InstructionException.TheVariants.{IllegalInstruction, AlignmentFault, StoreAccessFault}
+use Rattle.rrs_lib.specs.Machine.{State, reg, with_pc, plus_immediate, Outcome, read_outcome, granted_outcome, fault_outcome}
+use Rattle.rrs_lib.specs.Steps.{StepAnswer, next_word, answered}
+use Rattle.rrs_lib.specs.Accesses.{Access, Read, Write, read_if_aligned, fetch}
+use Rattle.rrs_words.specs.AtomicInstructions.{IsAtomic}
+use Rattle.rrs_words.specs.declared.atomics.AtomicRow.{AtomicRow}
+use Rattle.rrs_atomics.specs.Atomics.{AtomicOutcome, leaves, atomic_outcome, accesses_of_atomic}
+use Rattle.rrs_fast.specs.declared.serving.Ending.{Ending}
+use Rattle.rrs_fast.specs.declared.serving.Ending.TheVariants.{Limit, Fault, Exit}
+use Rattle.rrs_fast.specs.Serving.{Relation, Served}
+
+-- ---- a load or a store at any address
+
+-- the low n bytes of a value are stored, or none of them
+abbrev pub stored_anywhere : ℕ → ℕ → ℕ → State → Outcome
+stored_anywhere n value a s =
+    if all_writable s.writable a n then granted_outcome n value a s
+    else fault_outcome (StoreAccessFault a) s
+
+-- The outcome of a load or a store wherever its address is: the one that Machine.antt gives it, but
+-- for the test of the address. Another action has none.
+abbrev pub anywhere_by : Action → Fields → State → Option Outcome
+anywhere_by (Load n extended) (I f) s =
+    Some (read_outcome extended f.rd (plus_immediate (reg s f.rs1) f.imm) s
+    (little_endian s.bytes (plus_immediate (reg s f.rs1) f.imm) n))
+anywhere_by (Store n) (S f) s =
+    Some (stored_anywhere n (reg s f.rs2) (plus_immediate (reg s f.rs1) f.imm) s)
+anywhere_by _ _ s = None
+
+-- ---- its accesses, each of a byte
+
+-- A byte is read. No access reaches 2 ^ 32, where nothing is mapped.
+abbrev pub byte_read : ByteMap → ℕ → List Access
+byte_read bytes a = if nat_lt a (2 ^ 32) then Read a Byte (little_endian bytes a 1) ∷ [] else []
+
+-- the n bytes from a on are read, in order, up to one that is not mapped
+abbrev pub read_after : Option ℕ → ByteMap → ℕ → List Access
+read_after None bytes a = []
+read_after (Some value) bytes a = byte_read bytes a
+
+abbrev pub byte_reads : ByteMap → ℕ → ℕ → List Access
+byte_reads bytes a zero = []
+byte_reads bytes a (suc n) =
+    byte_reads bytes a n ++ read_after (little_endian bytes a n) bytes (a + n)
+
+-- the byte that was read is written as it is, so that it stays
+abbrev pub same_written : (ℕ → Bool) → ℕ → Option ℕ → List Access
+same_written writable a None = []
+same_written writable a (Some byte) = Write a Byte byte (writable a) ∷ []
+
+-- whether a byte is writable, tried
+abbrev pub byte_trial : ByteMap → (ℕ → Bool) → ℕ → List Access
+byte_trial bytes writable a =
+    byte_read bytes a ++ same_written writable a (little_endian bytes a 1)
+
+-- the n bytes from a on are tried, in order, up to one that is not writable
+abbrev pub byte_trials : ByteMap → (ℕ → Bool) → ℕ → ℕ → List Access
+byte_trials bytes writable a zero = []
+byte_trials bytes writable a (suc n) =
+    byte_trials bytes writable a n
+    ++ (if all_writable writable a n then byte_trial bytes writable (a + n) else [])
+
+-- the low n bytes of a value are written, in order: byte i is the lowest of value / 256 ^ i
+abbrev pub byte_writes : ℕ → ℕ → ℕ → List Access
+byte_writes a value zero = []
+byte_writes a value (suc n) =
+    byte_writes a value n ++ Write (a + n) Byte (value / 256 ^ n) true ∷ []
+
+-- a store tries its bytes first, and writes where all are writable
+abbrev pub byte_stores : ℕ → ℕ → ℕ → State → List Access
+byte_stores n value a s =
+    byte_trials s.bytes s.writable a n
+    ++ (if all_writable s.writable a n then byte_writes a value n else [])
+
+abbrev pub accesses_anywhere : Action → Fields → State → List Access
+accesses_anywhere (Load n extended) (I f) s =
+    byte_reads s.bytes (plus_immediate (reg s f.rs1) f.imm) n
+accesses_anywhere (Store n) (S f) s =
+    byte_stores n (reg s f.rs2) (plus_immediate (reg s f.rs1) f.imm) s
+accesses_anywhere _ _ s = []
+
+-- ---- one instruction
+
+-- the program counter goes on by 4 after an instruction that is carried out
+abbrev pub moved : State → StepAnswer → State
+moved s (Ok v) = with_pc s (word (pos (s.pc + 4)))
+moved s (Err e) = s
+
+abbrev pub moved_on : AtomicOutcome → AtomicOutcome
+moved_on o = leaves (moved o.after o.answer) o.reservation o.answer
+
+-- A fault stands: it is none of a load or a store at a misaligned address, or these are strict, and
+-- it is none of an instruction of extension A.
+pub record Stands (strict : Bool) (fault : InstructionException) (s : State) : Type 0 where
+  pub no_access : (a w : ℕ) (row : Row) (f : Fields) → strict ≡ false → fault ≡ AlignmentFault a
+      → next_word s ≡ Some w → Decodes w row f → anywhere_by (table row).action f s ≡ None
+  pub no_atomic : (pc w : ℕ) (row : AtomicRow) (f : RType) → fault ≡ IllegalInstruction pc w
+      → ¬ IsAtomic w row f
+
+-- the word at the program counter is read again to see whether a misaligned access is its own
+abbrev pub looked_at : Bool → InstructionException → State → List Access
+looked_at false (AlignmentFault a) s = read_if_aligned s s.pc Word
+looked_at _ _ s = []
+
+-- A step raised a fault and left the state s. What the state and the reservation become, the
+-- answer, and the accesses. Where misaligned addresses are strict, no load or store at one is
+-- carried out.
+pub data Mended (strict : Bool) (fault : InstructionException) (r : Option ℕ) (s : State)
+    (r' : Option ℕ) (t : State) (answer : StepAnswer) (accesses : List Access) : Type 0 where
+  -- a load or a store at a misaligned address
+  ByBytes : (a w : ℕ) (row : Row) (f : Fields) (o : Outcome)
+      → strict ≡ false → fault ≡ AlignmentFault a
+      → next_word s ≡ Some w → Decodes w row f → anywhere_by (table row).action f s ≡ Some o
+      → leaves t r' answer ≡ moved_on (leaves o.after r (answered o.answer))
+      → accesses ≡ fetch s ∷ accesses_anywhere (table row).action f s
+      → Mended strict fault r s r' t answer accesses
+  -- an instruction of extension A: the fault has its word
+  Swaps : (pc w : ℕ) (row : AtomicRow) (f : RType)
+      → fault ≡ IllegalInstruction pc w → IsAtomic w row f
+      → leaves t r' answer ≡ moved_on (atomic_outcome row f s r)
+      → accesses ≡ accesses_of_atomic row f s r
+      → Mended strict fault r s r' t answer accesses
+  -- another fault, which stands
+  Stays : Stands strict fault s
+      → t ≡ s → r' ≡ r → answer ≡ Err fault → accesses ≡ looked_at strict fault s
+      → Mended strict fault r s r' t answer accesses
+
+-- ---- runs
+
+-- a served run ended by no fault
+abbrev pub IsNoFault : Ending → Type 0
+IsNoFault Limit = Unit {0}
+IsNoFault (Fault fault) = ⊥
+IsNoFault (Exit status) = Unit {0}
+
+-- By what an environment of type E says of a call:
+module _ {E : Type 0} (serves : Relation E) (strict : Bool) where
+  -- The machine runs and is served, and goes on where a fault is mended. It ends so, with the
+  -- environment e' and at t. The places after the colon: within a limit, from a reservation, an
+  -- environment and a state, after so many steps, with these accesses.
+  pub data MendedRun (ending : Ending) (e' : E) (t : State)
+      : ℕ → Option ℕ → E → State → ℕ → List Access → Type 0 where
+    -- a served run that ends by no fault
+    Ends : (limit : ℕ) (r : Option ℕ) (e : E) (s : State) (steps : ℕ) (accesses : List Access)
+        → Served serves ending e' t limit e s steps accesses → IsNoFault ending
+        → MendedRun ending e' t limit r e s steps accesses
+    -- one that ends by a fault, where a fault is left
+    Faults : (limit : ℕ) (r r' : Option ℕ) (e : E) (s m : State) (steps : ℕ)
+        → (of_run of_mend : List Access) (fault left : InstructionException)
+        → Served serves (Fault fault) e' m limit e s steps of_run
+        → Mended strict fault r m r' t (Err left) of_mend → ending ≡ Fault left
+        → MendedRun ending e' t limit r e s steps (of_run ++ of_mend)
+    -- one that ends by a fault that is mended, which makes one step more, and what follows it
+    -- within what is left of the limit
+    GoesOn : (limit : ℕ) (r r' : Option ℕ) (e d : E) (s m u : State) (first later : ℕ)
+        → (of_run of_mend of_later : List Access) (fault : InstructionException)
+        → Served serves (Fault fault) d m limit e s first of_run
+        → Mended strict fault r m r' u (Ok tt) of_mend
+        → MendedRun ending e' t (limit - (first + 1)) r' d u later of_later
+        → MendedRun ending e' t limit r e s (first + 1 + later) ((of_run ++ of_mend) ++ of_later)
+
+-- What a run of a program does: how it ends, the environment and the state then, within a limit,
+-- from an environment and a state, after so many steps, with these accesses.
+abbrev pub Chain : Type 0 → Type 1
+Chain E = Ending → E → State → ℕ → E → State → ℕ → List Access → Type 0
+
+-- a run that is mended, with no address reserved where it begins
+abbrev pub Mending : {E : Type 0} → Relation E → Bool → Chain E
+Mending serves strict ending e' t limit e s steps accesses =
+    MendedRun serves strict ending e' t limit None e s steps accesses

@@ -1,0 +1,443 @@
+//! Runs of programs whose misaligned loads and stores, and whose instructions of extension A, are
+//! carried out.
+//!
+//! The kit's step faults at these. [mend] carries out the instruction that it faulted at, and
+//! [run_mended] is a served run that goes on so. What both do is written in `specs/Mending.antt`.
+
+ghost use Rattle.std.specs.Prelude.{◌≡◌, ℕ, ◌+◌, ◌*◌, ◌^◌, ◌<◌, ◌≤◌, true, false, Bool, Option, Some, None, IfSome, IfNone, slice_index};
+ghost use Rattle.rrs_instruction.specs.Encodings.{I, S, HasRegisters};
+ghost use Rattle.rrs_instruction.specs.Instructions.{row_of, fields_of};
+ghost use Rattle.rrs_instruction.specs.Table.{table, Load, Store};
+ghost use Rattle.rrs_instruction.specs.Words.{word};
+ghost use Rattle.rrs_memory.specs.Bytes.{little_endian, all_writable, store, EndsAtLastAddress};
+ghost use Rattle.rrs_lib.specs.Machine.{state_of};
+ghost use Rattle.rrs_lib.specs.Accesses.{Makes};
+ghost use Rattle.rrs_lib.specs.Executor.{state_in, KeepsTheRest};
+ghost use Rattle.rrs_fast.specs.Serving.{MakesSome};
+ghost use Rattle.rrs_exec.specs.Mending.{anywhere_by, accesses_anywhere, byte_read, byte_reads, byte_trial, byte_trials, byte_writes, moved, Mended, Mending};
+ghost use Rattle.rrs_exec.specs.MendedRounds.{extended_by, LeavesIf, MendedRoundOf, MendedWithin};
+ghost use Rattle.rrs_lib.specs.declared.instruction_executor.InstructionException.TheVariants.{IllegalInstruction, AlignmentFault};
+
+use rrs_atomics::execute_atomic;
+use rrs_fast::{Ending, Environment, Runner, ServedEnd, run_served};
+use rrs_instruction::arithmetic;
+use rrs_lib::instruction::{Instruction, decode};
+use rrs_lib::instruction_executor::{InstructionException, InstructionExecutor, fetch_word};
+use rrs_lib::instruction_formats::{IType, SType};
+use rrs_lib::{HartState, MemAccessSize, Memory};
+use rrs_words::decode_atomic;
+
+/// A number of so many bytes, and a byte above them.
+fn with_byte(low: u32, count: u32, byte: u32) -> u32
+    requires count { count < 4 }
+    requires low { low < 256 ^ count }
+    requires byte { byte < 256 }
+    ensures sum { result ≡ low + byte * 256 ^ count }
+    ensures below { result < 256 ^ (count + 1) }
+{
+    match count {
+        0 => byte,
+        1 => low + byte * 0x100,
+        2 => low + byte * 0x1_0000,
+        _ => low + byte * 0x100_0000,
+    }
+}
+
+/// Reads the byte that lies so far behind an address. No address is 2^32.
+fn read_byte<M: Memory>(mem: &mut M, address: u32, offset: u32) -> Option<u32>
+    requires { EndsAtLastAddress (M.bytes mem.old) (M.writable mem.old) }
+    ensures value { result ≡ little_endian (M.bytes mem.old) (address + offset) 1 }
+    ensures below { IfSome result (λ byte. byte < 256) }
+    ensures within { IfSome result (λ byte. address + offset < 2 ^ 32) }
+    ensures unmapped { IfNone result (M.writable mem.old (address + offset) ≡ false) }
+    ensures bytes_kept { M.bytes mem.new ≡ M.bytes mem.old }
+    ensures writable_kept { M.writable mem.new ≡ M.writable mem.old }
+    ensures layout_kept { M.layout mem.new ≡ M.layout mem.old }
+    ensures makes { Makes M.reads M.writes (byte_read (M.bytes mem.old) (address + offset))
+        mem.old mem.new }
+{
+    match address.checked_add(offset) {
+        Some(place) => mem.read_mem(place, MemAccessSize::Byte),
+        None => None,
+    }
+}
+
+/// Reads so many bytes, in order, up to one that is not mapped: their little-endian value.
+fn read_bytes<M: Memory>(mem: &mut M, address: u32, size: u32) -> Option<u32>
+    requires size { size ≤ 4 }
+    requires ends { EndsAtLastAddress (M.bytes mem.old) (M.writable mem.old) }
+    ensures value { result ≡ little_endian (M.bytes mem.old) address size }
+    ensures below { IfSome result (λ value. value < 256 ^ size) }
+    ensures bytes_kept { M.bytes mem.new ≡ M.bytes mem.old }
+    ensures writable_kept { M.writable mem.new ≡ M.writable mem.old }
+    ensures layout_kept { M.layout mem.new ≡ M.layout mem.old }
+    ensures makes { Makes M.reads M.writes (byte_reads (M.bytes mem.old) address size)
+        mem.old mem.new }
+{
+    let mut value = 0;
+    for i in 0..size {
+        match read_byte(mem, address, i) {
+            Some(byte) => value = with_byte(value, i, byte),
+            None => return None,
+        }
+    }
+    Some(value)
+}
+
+/// Whether the byte that lies so far behind an address is writable: it is read, and written as it
+/// is.
+fn try_byte<M: Memory>(mem: &mut M, address: u32, offset: u32) -> bool
+    requires { EndsAtLastAddress (M.bytes mem.old) (M.writable mem.old) }
+    ensures answer { result ≡ M.writable mem.old (address + offset) }
+    ensures bytes_kept { M.bytes mem.new ≡ M.bytes mem.old }
+    ensures writable_kept { M.writable mem.new ≡ M.writable mem.old }
+    ensures layout_kept { M.layout mem.new ≡ M.layout mem.old }
+    ensures makes { Makes M.reads M.writes
+        (byte_trial (M.bytes mem.old) (M.writable mem.old) (address + offset)) mem.old mem.new }
+{
+    match read_byte(mem, address, offset) {
+        Some(byte) => mem.write_mem(address + offset, MemAccessSize::Byte, byte),
+        None => false,
+    }
+}
+
+/// Whether so many bytes are writable: they are tried, in order, up to one that is not.
+fn try_bytes<M: Memory>(mem: &mut M, address: u32, size: u32) -> bool
+    requires { EndsAtLastAddress (M.bytes mem.old) (M.writable mem.old) }
+    ensures answer { result ≡ all_writable (M.writable mem.old) address size }
+    ensures bytes_kept { M.bytes mem.new ≡ M.bytes mem.old }
+    ensures writable_kept { M.writable mem.new ≡ M.writable mem.old }
+    ensures layout_kept { M.layout mem.new ≡ M.layout mem.old }
+    ensures makes { Makes M.reads M.writes
+        (byte_trials (M.bytes mem.old) (M.writable mem.old) address size) mem.old mem.new }
+{
+    for i in 0..size {
+        if !try_byte(mem, address, i) {
+            return false;
+        }
+    }
+    true
+}
+
+/// Writes the low bytes of a value, so many, in order. All are writable.
+fn write_bytes<M: Memory>(mem: &mut M, address: u32, size: u32, value: u32)
+    requires size { size ≤ 4 }
+    requires writable { all_writable (M.writable mem.old) address size ≡ true }
+    requires ends { EndsAtLastAddress (M.bytes mem.old) (M.writable mem.old) }
+    ensures stored { M.bytes mem.new ≡ store (M.bytes mem.old) address size value }
+    ensures writable_kept { M.writable mem.new ≡ M.writable mem.old }
+    ensures layout_kept { M.layout mem.new ≡ M.layout mem.old }
+    ensures makes { Makes M.reads M.writes (byte_writes address value size) mem.old mem.new }
+{
+    for i in 0..size {
+        let _granted = mem.write_mem(address + i, MemAccessSize::Byte, value >> (8 * i));
+    }
+}
+
+/// The word that a value of 1, 2 or 4 bytes is extended to: by its sign, or by zeros.
+fn extended(value: u32, size: u32, is_signed: bool) -> u32
+    requires value { value < 256 ^ size }
+    requires signed { is_signed ≡ true → (1 ≤ size) × (size ≤ 2) }
+    ensures { result ≡ word (extended_by is_signed size value) }
+{
+    match size {
+        1 if is_signed => arithmetic::sign_extended_byte(value),
+        2 if is_signed => arithmetic::sign_extended_half_word(value),
+        _ => value,
+    }
+}
+
+/// A load of so many bytes, at any address.
+///
+/// # Errors
+///
+/// `LoadAccessFault` with the address, where a byte is not mapped. No register is written then.
+fn load<M: Memory>(
+    mem: &mut M,
+    hart: &mut HartState,
+    fields: &IType,
+    size: u32,
+    is_signed: bool,
+) -> Result<(), InstructionException>
+    requires size { size ≤ 4 }
+    requires signed { is_signed ≡ true → (1 ≤ size) × (size ≤ 2) }
+    requires registers { HasRegisters (I fields.now) }
+    requires ends { EndsAtLastAddress (M.bytes mem.old) (M.writable mem.old) }
+    ensures outcome { LeavesIf (anywhere_by (Load size (extended_by is_signed size))
+        (I fields.now) (state_of hart.old (M.bytes mem.old) (M.writable mem.old)))
+        (state_of hart.old (M.bytes mem.old) (M.writable mem.old))
+        (state_of hart.new (M.bytes mem.new) (M.writable mem.new)) (Some result) }
+    ensures makes { Makes M.reads M.writes (accesses_anywhere
+        (Load size (extended_by is_signed size)) (I fields.now)
+        (state_of hart.old (M.bytes mem.old) (M.writable mem.old))) mem.old mem.new }
+    ensures layout_kept { M.layout mem.new ≡ M.layout mem.old }
+    ensures entry_zero { slice_index hart.new.registers 0 ≡ slice_index hart.old.registers 0 }
+{
+    let address = arithmetic::plus_immediate(hart.read_register(fields.rs1), fields.imm);
+    match read_bytes(mem, address, size) {
+        Some(value) => {
+            hart.write_register(fields.rd, extended(value, size, is_signed));
+            Ok(())
+        }
+        None => Err(InstructionException::LoadAccessFault(address)),
+    }
+}
+
+/// A store of so many bytes, at any address.
+///
+/// # Errors
+///
+/// `StoreAccessFault` with the address, where a byte is not writable. No byte is changed then.
+fn store<M: Memory>(
+    mem: &mut M,
+    hart: &HartState,
+    fields: &SType,
+    size: u32,
+) -> Result<(), InstructionException>
+    requires size { size ≤ 4 }
+    requires registers { HasRegisters (S fields.now) }
+    requires ends { EndsAtLastAddress (M.bytes mem.old) (M.writable mem.old) }
+    ensures outcome { LeavesIf (anywhere_by (Store size) (S fields.now)
+        (state_of hart.now (M.bytes mem.old) (M.writable mem.old)))
+        (state_of hart.now (M.bytes mem.old) (M.writable mem.old))
+        (state_of hart.now (M.bytes mem.new) (M.writable mem.new)) (Some result) }
+    ensures makes { Makes M.reads M.writes (accesses_anywhere (Store size) (S fields.now)
+        (state_of hart.now (M.bytes mem.old) (M.writable mem.old))) mem.old mem.new }
+    ensures layout_kept { M.layout mem.new ≡ M.layout mem.old }
+{
+    let address = arithmetic::plus_immediate(hart.read_register(fields.rs1), fields.imm);
+    if !try_bytes(mem, address, size) {
+        return Err(InstructionException::StoreAccessFault(address));
+    }
+    write_bytes(mem, address, size, hart.read_register(fields.rs2));
+    Ok(())
+}
+
+/// Executes a load or a store, at any address, by accesses of single bytes; `None` where the
+/// instruction is none, and then nothing changes.
+fn access<M: Memory>(
+    mem: &mut M,
+    hart: &mut HartState,
+    instruction: &Instruction,
+) -> Option<Result<(), InstructionException>>
+    requires registers { HasRegisters (fields_of instruction.now) }
+    requires ends { EndsAtLastAddress (M.bytes mem.old) (M.writable mem.old) }
+    ensures outcome { LeavesIf (anywhere_by (table (row_of instruction.now)).action
+        (fields_of instruction.now) (state_of hart.old (M.bytes mem.old) (M.writable mem.old)))
+        (state_of hart.old (M.bytes mem.old) (M.writable mem.old))
+        (state_of hart.new (M.bytes mem.new) (M.writable mem.new)) result }
+    ensures makes { Makes M.reads M.writes (accesses_anywhere
+        (table (row_of instruction.now)).action (fields_of instruction.now)
+        (state_of hart.old (M.bytes mem.old) (M.writable mem.old))) mem.old mem.new }
+    ensures layout_kept { M.layout mem.new ≡ M.layout mem.old }
+    ensures entry_zero { slice_index hart.new.registers 0 ≡ slice_index hart.old.registers 0 }
+{
+    match instruction {
+        Instruction::Lb(fields) => Some(load(mem, hart, fields, 1, true)),
+        Instruction::Lbu(fields) => Some(load(mem, hart, fields, 1, false)),
+        Instruction::Lh(fields) => Some(load(mem, hart, fields, 2, true)),
+        Instruction::Lhu(fields) => Some(load(mem, hart, fields, 2, false)),
+        Instruction::Lw(fields) => Some(load(mem, hart, fields, 4, false)),
+        Instruction::Sb(fields) => Some(store(mem, hart, fields, 1)),
+        Instruction::Sh(fields) => Some(store(mem, hart, fields, 2)),
+        Instruction::Sw(fields) => Some(store(mem, hart, fields, 4)),
+        _ => None,
+    }
+}
+
+/// Ends an instruction that was carried out after its fault: the pc goes on by 4 after `Ok`.
+fn go_on(
+    hart: &mut HartState,
+    answer: Result<(), InstructionException>,
+) -> Result<(), InstructionException>
+    ensures moved { (bytes : ℕ → Option ℕ) (writable : ℕ → Bool) → state_of hart.new bytes writable
+        ≡ moved (state_of hart.old bytes writable) answer }
+    ensures same { result ≡ answer }
+    ensures entry_zero { slice_index hart.new.registers 0 ≡ slice_index hart.old.registers 0 }
+{
+    if answer.is_ok() {
+        hart.pc = hart.pc.wrapping_add(4);
+    }
+    answer
+}
+
+/// Carries out the load or the store at the pc, at any address, after its fault.
+///
+/// # Errors
+///
+/// The fault, where no load and no store is at the pc. `LoadAccessFault` and `StoreAccessFault`.
+fn access_at_pc<M: Memory>(
+    mem: &mut M,
+    hart: &mut HartState,
+    fault: InstructionException,
+) -> Result<(), InstructionException>
+    ensures mended { (address : ℕ) (r : Option ℕ) → fault ≡ AlignmentFault address
+        → MakesSome M.reads M.writes (Mended false fault
+        r (state_of hart.old (M.bytes mem.old) (M.writable mem.old))
+        r (state_of hart.new (M.bytes mem.new) (M.writable mem.new)) result) mem.old mem.new }
+    ensures layout_kept { M.layout mem.new ≡ M.layout mem.old }
+    ensures entry_zero { slice_index hart.new.registers 0 ≡ slice_index hart.old.registers 0 }
+{
+    let Ok(word) = fetch_word(mem, hart.pc) else {
+        return Err(fault);
+    };
+    let Some(instruction) = decode(word) else {
+        return Err(fault);
+    };
+    match access(mem, hart, &instruction) {
+        Some(answer) => go_on(hart, answer),
+        None => Err(fault),
+    }
+}
+
+/// Carries out the instruction of extension A that a word is, at which a step faulted.
+///
+/// # Errors
+///
+/// The fault, where the word is none. The exceptions of [execute_atomic].
+fn swap<M: Memory>(
+    mem: &mut M,
+    hart: &mut HartState,
+    reservation: &mut Option<u32>,
+    word: u32,
+    fault: InstructionException,
+) -> Result<(), InstructionException>
+    ensures mended { (strict : Bool) (pc : ℕ) → fault ≡ IllegalInstruction pc word
+        → MakesSome M.reads M.writes (Mended strict fault
+        reservation.old (state_of hart.old (M.bytes mem.old) (M.writable mem.old))
+        reservation.new (state_of hart.new (M.bytes mem.new) (M.writable mem.new)) result)
+        mem.old mem.new }
+    ensures layout_kept { M.layout mem.new ≡ M.layout mem.old }
+    ensures entry_zero { slice_index hart.new.registers 0 ≡ slice_index hart.old.registers 0 }
+{
+    let Some(instruction) = decode_atomic(word) else {
+        return Err(fault);
+    };
+    let (row, fields) = (instruction.row, &instruction.fields);
+    let answer = execute_atomic(mem, hart, reservation, row, fields);
+    go_on(hart, answer)
+}
+
+/// Carries out the instruction at which a step raised an exception: a load or a store of a
+/// misaligned address, by accesses of single bytes, where these are not `strict`, and an
+/// instruction of extension A.
+///
+/// The pc is behind it then. A store finds out first whether each byte is writable.
+///
+/// # Errors
+///
+/// The exception that is left, and the pc is where it was: the same one where the instruction is
+/// none of these; where a byte is refused, `LoadAccessFault` or `StoreAccessFault` with the
+/// address, and neither a register nor a byte of memory is changed; and those of
+/// [execute_atomic].
+pub fn mend<M: Memory>(
+    executor: &mut InstructionExecutor<M>,
+    reservation: &mut Option<u32>,
+    strict: bool,
+    exception: InstructionException,
+) -> Result<(), InstructionException>
+    ensures mended { MakesSome M.reads M.writes (Mended strict exception
+        reservation.old (state_in M.bytes M.writable executor.old)
+        reservation.new (state_in M.bytes M.writable executor.new) result)
+        executor.old.mem.now executor.new.mem.now }
+    ensures rest { KeepsTheRest M.layout executor.old executor.new }
+{
+    let mem = &mut *executor.mem;
+    let hart = &mut *executor.hart_state;
+    match exception {
+        InstructionException::AlignmentFault(_) => {
+            if strict {
+                Err(exception)
+            } else {
+                access_at_pc(mem, hart, exception)
+            }
+        }
+        InstructionException::IllegalInstruction(_, word) => {
+            swap(mem, hart, reservation, word, exception)
+        }
+        _ => Err(exception),
+    }
+}
+
+/// What a round, a served run and the instruction that it faulted at, was.
+#[derive(Drop)]
+enum MendedRound {
+    /// The program goes on, after this many steps.
+    GoneOn(u64),
+    /// It ended, after this many steps.
+    Ended(u64, Ending),
+}
+
+/// Makes a served run up to a fault, and carries out the instruction there.
+fn mend_next<M: Memory, R: Runner<M>, E: Environment>(
+    runner: &mut R,
+    executor: &mut InstructionExecutor<M>,
+    environment: &mut E,
+    reservation: &mut Option<u32>,
+    strict: bool,
+    limit: u64,
+) -> MendedRound
+    ensures round { MakesSome M.reads M.writes
+        (MendedRoundOf E.serves strict limit reservation.old
+        environment.old (state_in M.bytes M.writable executor.old) result reservation.new
+        environment.new (state_in M.bytes M.writable executor.new))
+        executor.old.mem.now executor.new.mem.now }
+    ensures within { MendedWithin limit result }
+    ensures rest { KeepsTheRest M.layout executor.old executor.new }
+{
+    let end = run_served(runner, executor, environment, limit);
+    match end.ending {
+        Ending::Fault(fault) => match mend(executor, reservation, strict, fault) {
+            Ok(()) => MendedRound::GoneOn(end.steps + 1),
+            Err(left) => MendedRound::Ended(end.steps, Ending::Fault(left)),
+        },
+        ending => MendedRound::Ended(end.steps, ending),
+    }
+}
+
+/// Makes steps up to `limit`, to an exception that is not mended, or until the environment ends the
+/// program: `run_served` of `rrs_fast`, which goes on where [mend] carried out the instruction of a
+/// fault.
+///
+/// No address is reserved when the run begins. An instruction that is carried out counts as a step.
+/// With limit 0 nothing changes.
+///
+/// The clauses: a chain of served runs and such instructions, each within what is left of the
+/// limit, leads from the machine and the environment before to those after, and exactly its
+/// accesses are made (`mended`); what is no part of the state stays (`rest`).
+pub fn run_mended<M: Memory, R: Runner<M>, E: Environment>(
+    runner: &mut R,
+    executor: &mut InstructionExecutor<M>,
+    environment: &mut E,
+    strict: bool,
+    limit: u64,
+) -> ServedEnd
+    ensures mended { MakesSome M.reads M.writes
+        (Mending E.serves strict result.ending
+        environment.new (state_in M.bytes M.writable executor.new)
+        limit environment.old (state_in M.bytes M.writable executor.old) result.steps)
+        executor.old.mem.now executor.new.mem.now }
+    ensures rest { KeepsTheRest M.layout executor.old executor.new }
+{
+    let mut reservation = None;
+    let mut steps = 0;
+    'rounds: loop {
+        let left = limit - steps;
+        match mend_next(
+            runner,
+            executor,
+            environment,
+            &mut reservation,
+            strict,
+            left,
+        ) {
+            MendedRound::GoneOn(more) => {
+                steps += more;
+            }
+            MendedRound::Ended(more, ending) => {
+                let steps = steps + more;
+                return ServedEnd { steps, ending };
+            }
+        }
+    }
+}
