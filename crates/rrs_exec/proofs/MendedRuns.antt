@@ -9,9 +9,10 @@ use Rattle.rrs_lib.proofs.Making.{Makes-append}
 use Rattle.rrs_fast.specs.declared.serving.Ending.{Ending}
 use Rattle.rrs_fast.specs.declared.serving.Ending.TheVariants.{Limit, Fault, Exit}
 use Rattle.rrs_fast.specs.Serving.{Relation, EndsBy, Called, Served, Last, Exits, GoesOn as CallGoesOn, MakesSome}
-use Rattle.rrs_fast.proofs.Rounds.{run_within}
-use Rattle.rrs_exec.specs.Mending.{Mended, MendedRun, Ends, Faults, GoesOn, IsNoFault}
+use Rattle.rrs_fast.proofs.Rounds.{run_within, only_served}
+use Rattle.rrs_exec.specs.Mending.{Mended, MendedRun, Ends, Faults, GoesOn, IsNoFault, IsLeft, IsAsServed}
 use Rattle.rrs_exec.specs.MendedRounds.{CameTo}
+use Rattle.rrs_exec.proofs.MendedSteps.{stays_only}
 
 -- ---- how many steps a served run makes
 
@@ -141,3 +142,24 @@ module _ {E : Type 0} (serves : Relation E) (strict : Bool) {M : Type 0}
     these = so_far.goes_on ending e' t later run.accesses run.these;
     made = Makes-append reads writes so_far.accesses run.accesses a b c so_far.made run.made;
   }
+
+-- ---- a run that comes to nothing that is mended
+
+pub as_served : {E : Type 0} (serves : Relation E) (strict : Bool) (ending : Ending) (e' : E) (t : State) (limit : ℕ) (r : Option ℕ) (e : E)
+    (s : State) (steps : ℕ) (a : List Access) → MendedRun serves strict ending e' t limit r e s steps a
+    → IsAsServed serves strict limit e s steps ending e' t
+as_served serves strict ending e' t limit r e s steps a (Ends _ _ _ _ _ _ served none) =
+    λ determined steps' ending' d' t' a' other left.
+    only_served serves limit e e' s t steps ending a served determined steps' ending' d' t' a' other
+as_served serves strict ending e' t limit r e s steps _ (Faults _ _ r' _ _ m _ of_run of_mend fault kept served mended is) =
+    λ determined steps' ending' d' t' a' other left.
+    let same = only_served serves limit e e' s m steps (Fault fault) of_run served determined steps' ending' d' t' a' other in
+    let stands = subst (λ x. IsLeft strict x m) same.1 (subst (λ x. IsLeft strict ending' x) same.3 left) in
+    let stays = stays_only strict fault r r' m t (Err kept) of_mend mended stands in
+    let faults : fault ≡ kept = cc (stays.1) in
+    (same.0, same.1 ∙ ap Fault faults ∙ sym is, same.2, same.3 ∙ sym stays.0)
+as_served serves strict ending e' t limit r e s _ _ (GoesOn _ _ r' _ d _ m u first later of_run of_mend of_later fault served mended rest) =
+    λ determined steps' ending' d' t' a' other left.
+    let same = only_served serves limit e d s m first (Fault fault) of_run served determined steps' ending' d' t' a' other in
+    let stands = subst (λ x. IsLeft strict x m) same.1 (subst (λ x. IsLeft strict ending' x) same.3 left) in
+    absurd (cc ((stays_only strict fault r r' m u (Ok tt) of_mend mended stands).1))

@@ -1,6 +1,7 @@
 -- An instruction that is carried out after its fault, and a fault that stands.
 use Rattle.std.proofs.Common.{◌≡◌, ℕ, ◌%◌, Bool, true, false, if◌then◌else◌, List, [], ◌∷◌, Option, Some, None, Err, refl, sym, subst, ◌∙◌}
 use Rattle.std.proofs.lemmas.Bool.{eq-eqb}
+use Rattle.std.proofs.lemmas.Option.{none-some}
 use Rattle.rrs_memory.specs.declared.MemAccessSize.{MemAccessSize}
 use Rattle.rrs_memory.specs.declared.MemAccessSize.TheVariants.{Word}
 use Rattle.rrs_memory.specs.Bytes.{little_endian}
@@ -13,7 +14,7 @@ use Rattle.rrs_lib.specs.Steps.{StepAnswer, next_word, answered}
 use Rattle.rrs_lib.specs.Accesses.{Access, Makes, fetch, read_if_aligned}
 use Rattle.rrs_lib.proofs.Making.{Makes-append}
 use Rattle.rrs_atomics.specs.Atomics.{leaves}
-use Rattle.rrs_exec.specs.Mending.{anywhere_by, accesses_anywhere, moved, looked_at, Mended, ByBytes, Stays}
+use Rattle.rrs_exec.specs.Mending.{anywhere_by, accesses_anywhere, moved, looked_at, Mended, Stands, ByBytes, Swaps, Stays}
 use Rattle.rrs_exec.specs.MendedRounds.{LeavesIf}
 
 -- ---- what is read again
@@ -90,3 +91,11 @@ pub none_accessed : (action : Action) (f : Fields) (s : State) → anywhere_by a
 none_accessed (Load n extended) (I f) s is = absurd (cc)
 none_accessed (Store n) (S f) s is = absurd (cc)
 none_accessed _ _ s is = refl
+
+-- of a fault that stands nothing is carried out
+pub stays_only : (strict : Bool) (fault : InstructionException) (r r' : Option ℕ) (s t : State) (answer : StepAnswer) (a : List Access)
+    → Mended strict fault r s r' t answer a → Stands strict fault s → (t ≡ s) × (answer ≡ Err fault)
+stays_only strict fault r r' s t answer a (ByBytes address w row f o loose is next decodes some ends accessed) stands =
+    absurd (none-some o (sym (stands.no_access address w row f loose is next decodes) ∙ some))
+stays_only strict fault r r' s t answer a (Swaps pc w row f is atomic ends accessed) stands = absurd (stands.no_atomic pc w row f is atomic)
+stays_only strict fault r r' s t answer a (Stays stays there kept answered accessed) stands = (there, answered)

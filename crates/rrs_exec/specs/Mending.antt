@@ -19,7 +19,7 @@ use Rattle.rrs_words.specs.declared.atomics.AtomicRow.{AtomicRow}
 use Rattle.rrs_atomics.specs.Atomics.{AtomicOutcome, leaves, atomic_outcome, accesses_of_atomic}
 use Rattle.rrs_fast.specs.declared.serving.Ending.{Ending}
 use Rattle.rrs_fast.specs.declared.serving.Ending.TheVariants.{Limit, Fault, Exit}
-use Rattle.rrs_fast.specs.Serving.{Relation, Served}
+use Rattle.rrs_fast.specs.Serving.{Relation, Served, IsDetermined}
 
 -- ---- a load or a store at any address
 
@@ -180,3 +180,19 @@ Chain E = Ending → E → State → ℕ → E → State → ℕ → List Access
 abbrev pub Mending : {E : Type 0} → Relation E → Bool → Chain E
 Mending serves strict ending e' t limit e s steps accesses =
     MendedRun serves strict ending e' t limit None e s steps accesses
+
+-- a served run ended so, and nothing of that is mended
+abbrev pub IsLeft : Bool → Ending → State → Type 0
+IsLeft strict Limit t = Unit {0}
+IsLeft strict (Fault fault) t = Stands strict fault t
+IsLeft strict (Exit status) t = Unit {0}
+
+-- A served run from there that ends by no fault, or by one that stands, is this run, if a call does
+-- one thing at most. So is each of a program without extension A where misaligned addresses are
+-- strict.
+abbrev pub IsAsServed : {E : Type 0} → Relation E → Bool → ℕ → E → State → ℕ → Ending → E → State
+    → Type 0
+IsAsServed {E = E} serves strict limit e s steps ending d t =
+    IsDetermined serves → (steps' : ℕ) (ending' : Ending) (d' : E) (t' : State) (a' : List Access)
+    → Served serves ending' d' t' limit e s steps' a' → IsLeft strict ending' t'
+    → (steps' ≡ steps) × (ending' ≡ ending) × (d' ≡ d) × (t' ≡ t)

@@ -14,7 +14,7 @@ ghost use Rattle.rrs_lib.specs.Machine.{state_of};
 ghost use Rattle.rrs_lib.specs.Accesses.{Makes};
 ghost use Rattle.rrs_lib.specs.Executor.{state_in, KeepsTheRest};
 ghost use Rattle.rrs_fast.specs.Serving.{MakesSome};
-ghost use Rattle.rrs_exec.specs.Mending.{anywhere_by, accesses_anywhere, byte_read, byte_reads, byte_trial, byte_trials, byte_writes, moved, Mended, Mending};
+ghost use Rattle.rrs_exec.specs.Mending.{anywhere_by, accesses_anywhere, byte_read, byte_reads, byte_trial, byte_trials, byte_writes, moved, IsAsServed, Mended, Mending};
 ghost use Rattle.rrs_exec.specs.MendedRounds.{extended_by, LeavesIf, MendedRoundOf, MendedWithin};
 ghost use Rattle.rrs_lib.specs.declared.instruction_executor.InstructionException.TheVariants.{IllegalInstruction, AlignmentFault};
 
@@ -404,7 +404,8 @@ fn mend_next<M: Memory, R: Runner<M>, E: Environment>(
 ///
 /// The clauses: a chain of served runs and such instructions, each within what is left of the
 /// limit, leads from the machine and the environment before to those after, and exactly its
-/// accesses are made (`mended`); what is no part of the state stays (`rest`).
+/// accesses are made (`mended`); a run that comes to no such instruction is the served run
+/// (`as_served`); what is no part of the state stays (`rest`).
 pub fn run_mended<M: Memory, R: Runner<M>, E: Environment>(
     runner: &mut R,
     executor: &mut InstructionExecutor<M>,
@@ -417,6 +418,10 @@ pub fn run_mended<M: Memory, R: Runner<M>, E: Environment>(
         environment.new (state_in M.bytes M.writable executor.new)
         limit environment.old (state_in M.bytes M.writable executor.old) result.steps)
         executor.old.mem.now executor.new.mem.now }
+    ensures as_served { IsAsServed E.serves strict
+        limit environment.old (state_in M.bytes M.writable executor.old)
+        result.steps result.ending
+        environment.new (state_in M.bytes M.writable executor.new) }
     ensures rest { KeepsTheRest M.layout executor.old executor.new }
 {
     let mut reservation = None;

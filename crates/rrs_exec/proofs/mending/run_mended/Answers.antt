@@ -1,6 +1,6 @@
 use Rattle.std.proofs.Common.{arith}
 use Rattle.rrs_lib.proofs.Stepping.{KeepsTheRest-trans}
-use Rattle.rrs_exec.proofs.MendedRuns.{mended_more, mended_end}
+use Rattle.rrs_exec.proofs.MendedRuns.{mended_more, mended_end, as_served}
 use Rattle.rrs_exec.proofs.mending.run_mended.Goals as goal
 
 pub rounds-preserved : goal.rounds-preserved
@@ -13,3 +13,7 @@ rounds-preserved g c = record {
 pub returns-in-Ended-clause-mended : goal.returns-in-Ended-clause-mended
 returns-in-Ended-clause-mended g c =
     mended_end _ _ _ _ _ _ _ _ _ _ _ _ _ _ _ _ _ _ _ c.rounds.invariant.so_far c.in-Ended.ensures.round
+
+pub returns-in-Ended-clause-as_served : goal.returns-in-Ended-clause-as_served
+returns-in-Ended-clause-as_served g c =
+    as_served g.E.Environment.serves c.args.strict _ _ _ _ _ _ _ _ _ (returns-in-Ended-clause-mended g c).these
