@@ -65,20 +65,21 @@ const EXECUTE: Subcommand = Subcommand {
     command: Command {
         name: "rrs exec",
         usage: "rrs exec [--limit STEPS] [--memory BYTES] [--files FOLDER | --files-read-only FOLDER]
-    [--clock fixed] [--raw] PROGRAM [ARGUMENT] ..",
+    [--strict-alignment] [--clock fixed] [--raw] PROGRAM [ARGUMENT] ..",
     },
     summary: "runs a program that makes system calls of Linux",
-    help: "Runs PROGRAM, an ELF executable for RV32IM, as a process of Linux with these
+    help: "Runs PROGRAM, an ELF executable for RV32IMA, as a process of Linux with these
 ARGUMENTs: in a memory of 256 MiB, or of what it needs up to 1 GiB (--memory, up to
 4G), with its heap after its segments, its stack at the end, and a gap between them;
 code and constants are read-only. It makes at most STEPS steps, of which each system
 call is one, or any number. The program has standard input, output and error. With
 --files it also has the files below FOLDER, which is its root and where it is, and
-with --files-read-only it has them and can't change them. With --clock fixed its
-clocks stand at 0, so that each run is the same. A fault is told with its pc. Options
-stand before PROGRAM: the words after it are the program's own. With --raw the file's
-bytes stand at address 0 of 1 MiB and sp at its end, and there are no ARGUMENTs and
-no files.
+with --files-read-only it has them and can't change them. A load or a store at a
+misaligned address is carried out, and with --strict-alignment it is a fault. With
+--clock fixed its clocks stand at 0, so that each run is the same. A fault is told
+with its pc. Options stand before PROGRAM: the words after it are the program's own.
+With --raw the file's bytes stand at address 0 of 1 MiB and sp at its end, and there
+are no ARGUMENTs and no files.
 
 Status: the program's own; 124 at the limit; 125 where it can't be run; 128 and
 the number of a signal for a fault: 132 illegal instruction, 133 breakpoint,
@@ -102,7 +103,8 @@ const TRACE: Subcommand = Subcommand {
 mem with the address of its load, or of its store with the value. The lines go to
 standard error, or to FILE (--output), which is created or made empty. With --from
 they begin at the first step at an ADDRESS, which is decimal digits, or 0x and
-hexadecimal ones, or else the name of a SYMBOL.
+hexadecimal ones, or else the name of a SYMBOL. A misaligned load or store, and an
+instruction of extension A, are faults here.
 
 Status: as that of rrs exec.
 ",
@@ -123,7 +125,8 @@ many of its instructions were executed, how many it has, how often it was entere
 how many steps were made in it, those first that never ran. With --annotate it writes
 the disassembly, with a count before each instruction. It goes to standard error, or to
 FILE (--output), and with --callgrind the counts by function and by call go to a FILE
-in Callgrind's profile format, which callgrind_annotate and KCachegrind read.
+in Callgrind's profile format, which callgrind_annotate and KCachegrind read. A
+misaligned load or store, and an instruction of extension A, are faults here.
 
 Status: as that of rrs exec.
 ",

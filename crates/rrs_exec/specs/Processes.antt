@@ -1,5 +1,5 @@
 -- What it is to run an executable as a process that makes system calls.
-use Rattle.std.specs.Prelude.{◌≡◌, ℕ, Bool, List, ◌∷◌, replicate, Option, None}
+use Rattle.std.specs.Prelude.{◌≡◌, ℕ, Bool, List, ◌∷◌, replicate, None}
 use Rattle.rrs_lib.specs.Bytes.{ByteMap}
 use Rattle.rrs_lib.specs.AccessLists.{Access}
 use Rattle.rrs_lib.specs.Machine.{State}
@@ -9,12 +9,11 @@ use Rattle.rrs_exec.specs.Protection.{bytes_under, writable_under}
 use Rattle.rrs_exec.specs.Images.{IsImage, Filled}
 use Rattle.rrs_exec.specs.ProcessMemories.{lies_between, zeros_between}
 use Rattle.rrs_fast.specs.declared.serving.Ending.{Ending}
-use Rattle.rrs_fast.specs.Serving.{Served}
 use Rattle.rrs_linux.specs.declared.Heap.{Heap}
 use Rattle.rrs_linux.specs.declared.Process.{Process}
 use Rattle.rrs_linux.specs.declared.host_writer.HostWriter.{HostWriter}
 use Rattle.rrs_linux.specs.declared.host_side.HostSide.{HostSide}
-use Rattle.rrs_linux.specs.SystemCalls.{Serves}
+use Rattle.rrs_exec.specs.Mending.{Chain}
 
 -- a hart at its entry, all of whose registers are 0 but x2, which is sp
 abbrev pub started : ℕ → ℕ → ByteMap → (ℕ → Bool) → State
@@ -45,21 +44,28 @@ pub record IsLoaded (file : List ℕ) (arguments : List (List ℕ)) (wanted : �
   pub filled : Filled file image.stack_pointer image.stack.items
       (zeros_between image.layout.base image.layout.end) bytes
 
--- By what is known of the environment's reader and writers:
-module _ {R W E : Type 0} (remaining : R → Option (List ℕ))
-    (contents : W → Option (List ℕ)) (errors_of : E → Option (List ℕ)) where
-  -- From an image, in a memory of these bytes under its marks, the machine runs and its system
-  -- calls are served, and this is how that ends: after so many steps, at this pc.
-  pub record RunsImage (image : Image) (bytes : ByteMap) (writable : ℕ → Bool) (limit : ℕ)
-      (old new : Process R (HostWriter W) (HostWriter E) HostSide)
-      (steps pc : ℕ) (ending : Ending) : Type 0 where
-    pub end : State
-    pub stands : end.pc ≡ pc
-    pub accesses : List Access
-    pub served : Served (Serves remaining contents errors_of) ending new end
-        limit (record old { heap = heap_of image })
-        (started image.entry image.stack_pointer (bytes_under image.marks.items bytes)
-        (writable_under image.marks.items writable)) steps accesses
+-- By a chain of an environment of type E, from an image, in a memory of these bytes under its
+-- marks, the machine runs and its calls are served, and this is how that ends: after so many steps,
+-- at this pc.
+pub record ServesImage {E : Type 0} (Runs : Chain E) (image : Image) (bytes : ByteMap)
+    (writable : ℕ → Bool) (limit : ℕ) (first last : E) (steps pc : ℕ) (ending : Ending)
+    : Type 0 where
+  pub end : State
+  pub stands : end.pc ≡ pc
+  pub accesses : List Access
+  pub served : Runs ending last end limit first (started image.entry image.stack_pointer
+      (bytes_under image.marks.items bytes) (writable_under image.marks.items writable))
+      steps accesses
+
+-- By a chain of a process of Linux:
+module _ {R W E : Type 0} (Runs : Chain (Process R (HostWriter W) (HostWriter E) HostSide)) where
+  -- the heap of the process is the image's, and the machine runs so
+  abbrev pub RunsImage : Image → ByteMap → (ℕ → Bool) → ℕ
+      → (old new : Process R (HostWriter W) (HostWriter E) HostSide)
+      → (steps pc : ℕ) → Ending → Type 0
+  RunsImage image bytes writable limit old new steps pc ending =
+      ServesImage Runs image bytes writable limit (record old { heap = heap_of image }) new
+      steps pc ending
 
   -- A process is loaded, and from its entry, with sp at its stack, the machine runs under the marks
   -- of its pages and its system calls are served, and this is how that ends: after so many steps,

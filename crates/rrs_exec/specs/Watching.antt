@@ -119,21 +119,21 @@ module _ {R W E V : Type 0} (remaining : R → Option (List ℕ))
     pub most : ℕ
     pub within : most ≤ limit
     pub all : wants v' ≡ true → most ≡ limit
-    pub runs : RunsImage remaining contents errors_of
+    pub runs : RunsImage (Served (Serves remaining contents errors_of))
         image bytes writable most old new steps pc ending
     pub shown : Shown (Serves remaining contents errors_of) sees wants
         (record old { heap = heap_of image }) (start_in image bytes writable) v
         ending steps new runs.end v'
 
-  -- The run is one of `execute_process`, within the limit, or, where the watcher wants no more,
-  -- within fewer steps. Each of its steps is shown.
+  -- A process is loaded and runs within the limit, or, where the watcher wants no more, within
+  -- fewer steps. Each of its steps is shown, and no fault is mended.
   pub record WatchesProcess (file : List ℕ) (arguments : List (List ℕ)) (wanted limit : ℕ)
       (old new : Process R (HostWriter W) (HostWriter E) HostSide) (v v' : V)
       (steps pc : ℕ) (ending : Ending) : Type 0 where
     pub most : ℕ
     pub within : most ≤ limit
     pub all : wants v' ≡ true → most ≡ limit
-    pub runs : RunsProcess remaining contents errors_of
+    pub runs : RunsProcess (Served (Serves remaining contents errors_of))
         file arguments wanted most old new steps pc ending
     pub shown : Shown (Serves remaining contents errors_of) sees wants
         (record old { heap = heap_of runs.image })

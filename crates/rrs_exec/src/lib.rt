@@ -2,16 +2,18 @@
 //!
 //! What a program finds where it starts: a memory whose pages are mapped, read-only or writable,
 //! and a stack with its arguments. [ProcessMemory] is 0 until it is written, and takes no memory of
-//! the host until then. [ProtectedMemory] is one under marks, one a page. [initial_stack] makes the block of bytes that lies at the stack pointer, and
-//! [stack_pointer] says where that is. [image_of] puts these together for an executable, and [fill]
-//! writes them into a memory. What they are is written in `specs/Protection.antt`,
-//! `specs/InitialStack.antt`, `specs/Layouts.antt` and `specs/Images.antt`.
+//! the host until then. [ProtectedMemory] is one under marks, one a page. [initial_stack] makes the
+//! block of bytes that lies at the stack pointer, and [stack_pointer] says where that is. [image_of]
+//! puts these together for an executable, and [fill] writes them into a memory. What they are is
+//! written in `specs/Protection.antt`, `specs/InitialStack.antt`, `specs/Layouts.antt` and
+//! `specs/Images.antt`.
 //!
-//! [load_process] makes a process of the bytes of an ELF file: its image, and its memory. [execute_process] runs it and serves its system calls. What that is, is written in
-//! `specs/Processes.antt`. [watch_process] shows each step of such a run to a [Watcher],
-//! as `specs/Watching.antt` says. [run_mended] goes on after misaligned loads and stores and after
-//! instructions of extension A, as `specs/Mending.antt` says. Both tell a [Progress] of the steps, of which their contracts say
-//! nothing, and that of [InPieces] all.
+//! [load_process] makes a process of the bytes of an ELF file: its image, and its memory.
+//! [execute_process] runs it and serves its system calls. What that is, is written in
+//! `specs/Processes.antt`. It is a run of [run_mended], which carries out misaligned loads and
+//! stores and the instructions of extension A, as `specs/Mending.antt` says. [watch_process] runs a
+//! process without that, and shows each step to a [Watcher], as `specs/Watching.antt` says. Both
+//! tell a [Progress] of the steps, of which their contracts say nothing, and that of [InPieces] all.
 
 #![tactic(auto)]
 
@@ -32,7 +34,7 @@ pub use marks::{PAGE_BYTES, PageRange, Protection, marks_of};
 pub use mending::{mend, run_mended};
 pub use process::{
     DECODED_WORDS, KeptMemory, LoadedProcess, ProcessEnd, WATCHED_WORDS, execute_process,
-    load_process, started,
+    load_process, serve_image, started,
 };
 pub use process_memory::ProcessMemory;
 pub use progress::{InPieces, NoProgress, Progress};

@@ -6,15 +6,18 @@ ghost use Rattle.rrs_exec.specs.Images.{AreLong, memory_refusal};
 ghost use Rattle.rrs_lib.specs.Machine.{state_of};
 ghost use Rattle.rrs_elf.specs.declared.errors.ElfError.{ElfError};
 ghost use Rattle.rrs_elf.specs.Refusals.{first_refusal, checks};
-ghost use Rattle.rrs_exec.specs.Processes.{started, RunsImage, RunsProcess, IsLoaded};
+ghost use Rattle.rrs_exec.specs.Mending.{Mending};
+ghost use Rattle.rrs_exec.specs.Processes.{started, RunsImage, RunsProcess, ServesImage, IsLoaded};
+ghost use Rattle.rrs_linux.specs.SystemCalls.{Serves};
 ghost use Rattle.rrs_exec.specs.ProcessMemories.{process_bytes, process_writable};
 
 use crate::image::{Image, ImageError, fill, image_of};
+use crate::mending::run_mended;
 use crate::process_memory::ProcessMemory;
 use crate::progress::{InPieces, Progress};
 use crate::protected::ProtectedMemory;
 use rrs_elf::Executable;
-use rrs_fast::{CachedMemory, Ending, OwnCache, ServedEnd, run_served};
+use rrs_fast::{CachedMemory, Ending, Environment, OwnCache, ServedEnd};
 use rrs_lib::HartState;
 use rrs_lib::instruction_executor::InstructionExecutor;
 use rrs_linux::{Heap, Linux};
@@ -110,9 +113,9 @@ pub fn load_process(
 
 /// Runs a file's bytes as an executable with these arguments, of which the first is its name, in a
 /// memory of so many bytes, and serves its system calls, for `limit` steps or until it ends
-/// or raises an exception. Its break begins after its segments, and the heap of the environment
-/// is set so. The end has the steps that were made and the pc after them. The progress is told of
-/// its steps, and of its end.
+/// or raises an exception that is not [mended](crate::mend). Its break begins after its segments,
+/// and the heap of the environment is set so. The end has the steps that were made and the pc after
+/// them. The progress is told of its steps, and of its end.
 ///
 /// # Errors
 ///
@@ -123,10 +126,12 @@ pub fn execute_process<R: Read, W: Write, E: Write, P: Progress>(
     arguments: &[String],
     wanted: u64,
     limit: u64,
+    strict: bool,
     environment: &mut Linux<R, W, E>,
     progress: &mut P,
 ) -> Result<ProcessEnd, ImageError>
-    ensures executed { IfOk result (λ end. RunsProcess R.remaining W.contents E.contents
+    ensures executed { IfOk result (λ end. RunsProcess
+        (Mending (Serves R.remaining W.contents E.contents) strict)
         file.now (map string_bytes arguments.now) wanted limit
         environment.old environment.new end.steps end.pc end.ending) }
     ensures ceiling { IsExecutable file.now
@@ -142,7 +147,7 @@ pub fn execute_process<R: Read, W: Write, E: Write, P: Progress>(
         → IfErr result (λ error. error ≡ ImageError.OutOfMemory) }
 {
     let LoadedProcess { image, memory } = load_process(alloc, file, arguments, wanted)?;
-    Ok(run_image(image, memory, limit, environment, progress))
+    Ok(run_image(image, memory, limit, strict, environment, progress))
 }
 
 /// Runs a process whose memory is filled.
@@ -150,21 +155,39 @@ fn run_image<R: Read, W: Write, E: Write, P: Progress>(
     image: Image,
     memory: ProcessMemory,
     limit: u64,
+    strict: bool,
     environment: &mut Linux<R, W, E>,
     progress: &mut P,
 ) -> ProcessEnd
-    ensures { RunsImage R.remaining W.contents E.contents image
+    ensures { RunsImage (Mending (Serves R.remaining W.contents E.contents) strict) image
+        (process_bytes memory) (process_writable memory) limit
+        environment.old environment.new result.steps result.pc result.ending }
+{
+    environment.heap = Heap::new(image.layout.heap_start, image.layout.heap_end);
+    serve_image(image, memory, limit, strict, environment, progress)
+}
+
+/// Runs a process whose memory is filled, with what serves its calls, from the entry of its image,
+/// as [execute_process] does.
+pub fn serve_image<S: Environment, P: Progress>(
+    image: Image,
+    memory: ProcessMemory,
+    limit: u64,
+    strict: bool,
+    environment: &mut S,
+    progress: &mut P,
+) -> ProcessEnd
+    ensures { ServesImage (Mending S.serves strict) image
         (process_bytes memory) (process_writable memory) limit
         environment.old environment.new result.steps result.pc result.ending }
 {
     let Image {
-        layout,
+        layout: _,
         entry,
         stack_pointer,
         stack: _,
         marks,
     } = image;
-    environment.heap = Heap::new(layout.heap_start, layout.heap_end);
     let mut hart = started(entry, stack_pointer);
     let protected = ProtectedMemory { memory, marks };
     let mut cached: CachedMemory<_, DECODED_WORDS> = CachedMemory::new(protected);
@@ -176,7 +199,8 @@ fn run_image<R: Read, W: Write, E: Write, P: Progress>(
         runner: OwnCache,
         progress: &mut *progress,
     };
-    let ServedEnd { steps, ending } = run_served(&mut runner, &mut executor, environment, limit);
+    let end = run_mended(&mut runner, &mut executor, environment, strict, limit);
+    let ServedEnd { steps, ending } = end;
     progress.end();
     let pc = executor.hart_state.pc;
     ProcessEnd { ending, steps, pc }

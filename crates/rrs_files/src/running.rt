@@ -6,17 +6,16 @@ ghost use Rattle.rrs_elf.specs.declared.errors.ElfError.{ElfError};
 ghost use Rattle.rrs_elf.specs.Refusals.{first_refusal, checks};
 ghost use Rattle.rrs_exec.specs.Images.{AreLong, memory_refusal};
 ghost use Rattle.rrs_exec.specs.ProcessMemories.{process_bytes, process_writable};
-ghost use Rattle.rrs_files.specs.Runs.{RunsBelow, RunsFilesBelow, RunsImageWithFiles, RunsWithFiles, ServesImage};
+ghost use Rattle.rrs_files.specs.Runs.{RunsBelow, RunsFilesBelow, RunsImageWithFiles, RunsWithFiles};
 
 use crate::files::Files;
 use crate::folder::Folder;
 use crate::serving::WithFiles;
 use rrs_exec::{
-    DECODED_WORDS, Image, ImageError, InPieces, LoadedProcess, ProcessEnd, ProcessMemory, Progress,
-    ProtectedMemory, load_process, started,
+    Image, ImageError, LoadedProcess, ProcessEnd, ProcessMemory, Progress, load_process,
+    serve_image,
 };
-use rrs_fast::{CachedMemory, Environment, OwnCache, ServedEnd, run_served};
-use rrs_lib::instruction_executor::InstructionExecutor;
+use rrs_fast::Environment;
 use rrs_linux::{Heap, Linux};
 use std::alloc::Global;
 use std::io::{Read, Write};
@@ -33,11 +32,12 @@ pub fn execute_with_files<R: Read, W: Write, E: Write, F: Folder, P: Progress>(
     arguments: &[String],
     wanted: u64,
     limit: u64,
+    strict: bool,
     environment: &mut WithFiles<'_, Linux<R, W, E>, F>,
     progress: &mut P,
 ) -> Result<ProcessEnd, ImageError>
     ensures executed { IfOk result (λ end. RunsWithFiles R.remaining W.contents E.contents F.did
-        file.now (map string_bytes arguments.now) wanted limit
+        strict file.now (map string_bytes arguments.now) wanted limit
         environment.old environment.new end.steps end.pc end.ending) }
     ensures ceiling { IsExecutable file.now
         → IfSome (memory_refusal file.now wanted) (λ error. result ≡ Err error) }
@@ -52,7 +52,7 @@ pub fn execute_with_files<R: Read, W: Write, E: Write, F: Folder, P: Progress>(
         → IfErr result (λ error. error ≡ ImageError.OutOfMemory) }
 {
     let LoadedProcess { image, memory } = load_process(alloc, file, arguments, wanted)?;
-    Ok(run_image(image, memory, limit, environment, progress))
+    Ok(run_image(image, memory, limit, strict, environment, progress))
 }
 
 /// Runs a file's bytes as `execute_process` of `rrs_exec` does, with these files. They are closed at
@@ -68,12 +68,13 @@ pub fn execute_below<R: Read, W: Write, E: Write, F: Folder + Drop, P: Progress>
     arguments: &[String],
     wanted: u64,
     limit: u64,
+    strict: bool,
     process: &mut Linux<R, W, E>,
     files: Files<F>,
     progress: &mut P,
 ) -> Result<ProcessEnd, ImageError>
     ensures executed { IfOk result (λ end. RunsBelow R.remaining W.contents E.contents F.did
-        file.now (map string_bytes arguments.now) wanted limit
+        strict file.now (map string_bytes arguments.now) wanted limit
         process.old files end.steps end.pc end.ending) }
     ensures ceiling { IsExecutable file.now
         → IfSome (memory_refusal file.now wanted) (λ error. result ≡ Err error) }
@@ -89,7 +90,7 @@ pub fn execute_below<R: Read, W: Write, E: Write, F: Folder + Drop, P: Progress>
 {
     let LoadedProcess { image, memory } = load_process(alloc, file, arguments, wanted)?;
     process.heap = Heap::new(image.layout.heap_start, image.layout.heap_end);
-    Ok(run_below(image, memory, limit, process, files, progress))
+    Ok(run_below(image, memory, limit, strict, process, files, progress))
 }
 
 /// Runs a process whose memory is filled, and whose heap is set, with these files.
@@ -97,15 +98,17 @@ fn run_below<S: Environment, F: Folder + Drop, P: Progress>(
     image: Image,
     memory: ProcessMemory,
     limit: u64,
+    strict: bool,
     process: &mut S,
     files: Files<F>,
     progress: &mut P,
 ) -> ProcessEnd
-    ensures { RunsFilesBelow S.serves F.did image (process_bytes memory) (process_writable memory)
+    ensures { RunsFilesBelow S.serves F.did strict image
+        (process_bytes memory) (process_writable memory)
         limit process.old files result.steps result.pc result.ending }
 {
     let mut with_files = WithFiles { process, files };
-    serve_image(image, memory, limit, &mut with_files, progress)
+    serve_image(image, memory, limit, strict, &mut with_files, progress)
 }
 
 /// Runs a process whose memory is filled.
@@ -113,48 +116,14 @@ fn run_image<R: Read, W: Write, E: Write, F: Folder, P: Progress>(
     image: Image,
     memory: ProcessMemory,
     limit: u64,
+    strict: bool,
     environment: &mut WithFiles<'_, Linux<R, W, E>, F>,
     progress: &mut P,
 ) -> ProcessEnd
-    ensures { RunsImageWithFiles R.remaining W.contents E.contents F.did image
+    ensures { RunsImageWithFiles R.remaining W.contents E.contents F.did strict image
         (process_bytes memory) (process_writable memory) limit
         environment.old environment.new result.steps result.pc result.ending }
 {
     environment.process.heap = Heap::new(image.layout.heap_start, image.layout.heap_end);
-    serve_image(image, memory, limit, environment, progress)
-}
-
-/// Runs a process whose memory is filled, with what serves its calls.
-fn serve_image<S: Environment, P: Progress>(
-    image: Image,
-    memory: ProcessMemory,
-    limit: u64,
-    environment: &mut S,
-    progress: &mut P,
-) -> ProcessEnd
-    ensures { ServesImage S.serves image (process_bytes memory) (process_writable memory)
-        limit environment.old environment.new result.steps result.pc result.ending }
-{
-    let Image {
-        layout: _,
-        entry,
-        stack_pointer,
-        stack: _,
-        marks,
-    } = image;
-    let mut hart = started(entry, stack_pointer);
-    let protected = ProtectedMemory { memory, marks };
-    let mut cached: CachedMemory<_, DECODED_WORDS> = CachedMemory::new(protected);
-    let mut executor = InstructionExecutor {
-        mem: &mut cached,
-        hart_state: &mut hart,
-    };
-    let mut runner = InPieces {
-        runner: OwnCache,
-        progress: &mut *progress,
-    };
-    let ServedEnd { steps, ending } = run_served(&mut runner, &mut executor, environment, limit);
-    progress.end();
-    let pc = executor.hart_state.pc;
-    ProcessEnd { ending, steps, pc }
+    serve_image(image, memory, limit, strict, environment, progress)
 }

@@ -2,6 +2,7 @@
 use Rattle.std.specs.Prelude.{◌≡◌, ℕ, List, [], ◌∷◌, ◌++◌, Bool, true, Option}
 use Rattle.rrs_trace.specs.declared.retired.Retired.{Retired}
 use Rattle.rrs_fast.specs.declared.serving.Ending.{Ending}
+use Rattle.rrs_fast.specs.Serving.{Served}
 use Rattle.rrs_linux.specs.declared.Process.{Process}
 use Rattle.rrs_linux.specs.declared.host_writer.HostWriter.{HostWriter}
 use Rattle.rrs_linux.specs.declared.host_side.HostSide.{HostSide}
@@ -16,13 +17,13 @@ keeps records r all = all ≡ records ++ r ∷ []
 abbrev pub wants_all : List Retired → Bool
 wants_all records = true
 
--- A run is one of `execute_process` with so many steps, and these are its records.
+-- A process is loaded and runs for so many steps, and these are the records of its run.
 pub record RunsWithRecords {R W E : Type 0} (remaining : R → Option (List ℕ))
     (contents : W → Option (List ℕ)) (errors_of : E → Option (List ℕ))
     (file : List ℕ) (arguments : List (List ℕ)) (wanted limit : ℕ)
     (old new : Process R (HostWriter W) (HostWriter E) HostSide)
     (steps pc : ℕ) (ending : Ending) (records : List Retired) : Type 0 where
-  pub runs : RunsProcess remaining contents errors_of
+  pub runs : RunsProcess (Served (Serves remaining contents errors_of))
       file arguments wanted limit old new steps pc ending
   pub shown : Shown (Serves remaining contents errors_of) keeps wants_all
       (record old { heap = heap_of runs.image })

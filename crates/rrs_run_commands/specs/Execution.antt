@@ -7,23 +7,22 @@ use Rattle.rrs_lib.specs.VecBytes.{bytes_of_words, lies_in_words}
 use Rattle.rrs_lib.specs.Loading.{Loads}
 use Rattle.rrs_cli.specs.Printed.{zero_words, start_of}
 use Rattle.rrs_fast.specs.declared.serving.Ending.{Ending}
-use Rattle.rrs_fast.specs.Serving.{Served}
+use Rattle.rrs_exec.specs.Mending.{Chain}
 use Rattle.rrs_linux.specs.declared.Process.{Process}
 use Rattle.rrs_linux.specs.declared.host_writer.HostWriter.{HostWriter}
 use Rattle.rrs_linux.specs.declared.host_side.HostSide.{HostSide}
-use Rattle.rrs_linux.specs.SystemCalls.{Serves}
 
 -- The machine that a program starts in: 1 MiB with these bytes, and a hart all of whose registers
 -- are 0 but x2, which is sp and has the address after the memory.
 abbrev pub program_start : ByteMap → State
 program_start bytes = start_of 262144 (0 ∷ 2 ^ 20 ∷ replicate 29 0) bytes
 
--- The bytes of a reader are loaded at address 0, and from there the machine runs and its system
--- calls are served, and this is how that ends. So what the environment's writers hold then is what
--- they held, and what each write wrote, in order; and what its reader gave, the calls that read
--- gave to the program.
-pub record ExecutesProgram {R W E : Type 0} (remaining : R → Option (List ℕ))
-    (contents : W → Option (List ℕ)) (errors_of : E → Option (List ℕ)) (limit : ℕ)
+-- The bytes of a reader are loaded at address 0, and from there the machine runs by a chain and its
+-- system calls are served, and this is how that ends. So what the environment's writers hold then
+-- is what they held, and what each write wrote, in order; and what its reader gave, the calls that
+-- read gave to the program.
+pub record ExecutesProgram {R W E : Type 0}
+    (Runs : Chain (Process R (HostWriter W) (HostWriter E) HostSide)) (limit : ℕ)
     (input rest : Option (List ℕ))
     (old new : Process R (HostWriter W) (HostWriter E) HostSide) (ending : Ending) : Type 0 where
   pub bytes : ByteMap
@@ -32,5 +31,4 @@ pub record ExecutesProgram {R W E : Type 0} (remaining : R → Option (List ℕ)
   pub end : State
   pub steps : ℕ
   pub accesses : List Access
-  pub served : Served (Serves remaining contents errors_of) ending new end
-      limit old (program_start bytes) steps accesses
+  pub served : Runs ending new end limit old (program_start bytes) steps accesses

@@ -3,7 +3,7 @@ use Rattle.std.specs.Prelude.{ℕ, ◌^◌, ◌-◌, List, Bool, true, false, co
 use Rattle.rrs_run_commands.specs.declared.options.Task.{Task}
 use Rattle.rrs_run_commands.specs.declared.options.Task.TheVariants.{Run, Execute, Trace, Cover, Assemble, Board, Debug, DebugBoard}
 use Rattle.rrs_run_commands.specs.declared.options.Switch.{Switch}
-use Rattle.rrs_run_commands.specs.declared.options.Switch.TheVariants.{Quiet, Raw, Annotate, Gnu, Listed, Rars, Anywhere}
+use Rattle.rrs_run_commands.specs.declared.options.Switch.TheVariants.{Quiet, Raw, Strict, Annotate, Gnu, Listed, Rars, Anywhere}
 use Rattle.rrs_run_commands.specs.declared.options.Setting.{Setting}
 use Rattle.rrs_run_commands.specs.declared.options.Setting.TheVariants.{Limit, Memory, From, Output, Callgrind, Input, Clock, Files, ReadFiles, Tree, Append, Text, Data, Executable}
 
@@ -12,6 +12,7 @@ use Rattle.rrs_run_commands.specs.declared.options.Setting.TheVariants.{Limit, M
 abbrev pub switch_word : Switch → List ℕ
 switch_word Quiet = codes "--quiet"
 switch_word Raw = codes "--raw"
+switch_word Strict = codes "--strict-alignment"
 switch_word Annotate = codes "--annotate"
 switch_word Gnu = codes "--gnu"
 switch_word Listed = codes "--list"
@@ -24,6 +25,7 @@ has_switch Execute Raw = true
 has_switch Debug Raw = true
 has_switch Board Raw = true
 has_switch DebugBoard Raw = true
+has_switch Execute Strict = true
 has_switch Cover Annotate = true
 has_switch Assemble Gnu = true
 has_switch Assemble Listed = true

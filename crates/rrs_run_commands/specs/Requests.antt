@@ -2,7 +2,7 @@
 --
 --   rrs run [--quiet] FILE LIMIT
 --   rrs exec [--limit STEPS] [--memory BYTES] [--files FOLDER | --files-read-only FOLDER]
---       [--clock fixed] [--raw] PROGRAM [ARGUMENT] ..
+--       [--strict-alignment] [--clock fixed] [--raw] PROGRAM [ARGUMENT] ..
 --   rrs trace [--limit STEPS] [--memory BYTES] [--clock fixed] [--from ADDRESS|SYMBOL]
 --       [--output FILE] PROGRAM [ARGUMENT] ..
 --   rrs cover [--limit STEPS] [--memory BYTES] [--clock fixed] [--annotate] [--callgrind FILE]
@@ -26,7 +26,7 @@ use Rattle.rrs_run_commands.specs.Options.{has_setting, has_switch, most_memory,
 use Rattle.rrs_run_commands.specs.declared.options.Task.{Task}
 use Rattle.rrs_run_commands.specs.declared.options.Task.TheVariants.{Run, Execute, Trace, Cover, Debug, Board}
 use Rattle.rrs_run_commands.specs.declared.options.Switch.{Switch}
-use Rattle.rrs_run_commands.specs.declared.options.Switch.TheVariants.{Quiet, Raw, Annotate, Gnu, Listed, Rars, Anywhere}
+use Rattle.rrs_run_commands.specs.declared.options.Switch.TheVariants.{Quiet, Raw, Strict, Annotate, Gnu, Listed, Rars, Anywhere}
 use Rattle.rrs_run_commands.specs.declared.options.Setting.{Setting}
 use Rattle.rrs_run_commands.specs.declared.options.Setting.TheVariants.{Limit, Memory, From, Output, Callgrind, Input, Clock, Files, ReadFiles, Tree, Append, Text, Data, Executable}
 use Rattle.rrs_run_commands.specs.declared.refusal.Mistake.{Mistake}
@@ -41,6 +41,7 @@ use Rattle.rrs_run_commands.specs.declared.requests.Request.{Request}
 pub record Wanted : Type 0 where
   pub quiet : Bool
   pub raw : Bool
+  pub strict : Bool
   pub annotated : Bool
   pub anywhere : Bool
   pub polled : Bool
@@ -67,6 +68,7 @@ abbrev pub unasked : Task → Wanted
 unasked task = record {
   quiet = false;
   raw = false;
+  strict = false;
   annotated = false;
   anywhere = false;
   polled = false;
@@ -93,6 +95,7 @@ abbrev pub wanted_of : Request → Wanted
 wanted_of request = record {
   quiet = request.is_quiet;
   raw = request.is_raw;
+  strict = request.is_strict;
   annotated = request.is_annotated;
   anywhere = request.has_any_file;
   polled = request.is_polled;
@@ -146,6 +149,7 @@ fault_of (Mistake.WrongSteps word) = WrongSteps word.now
 abbrev pub switched : Switch → Wanted → Wanted
 switched Quiet old = record old { quiet = true }
 switched Raw old = record old { raw = true }
+switched Strict old = record old { strict = true }
 switched Annotate old = record old { annotated = true }
 switched Gnu old = record old { form = Form.Source }
 switched Listed old = record old { form = Form.Listing }

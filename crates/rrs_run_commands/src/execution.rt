@@ -2,14 +2,16 @@
 
 ghost use Rattle.std.specs.Prelude.{◌≡◌, IfOk, IfErr, OnErr};
 ghost use Rattle.rrs_cli.specs.Faults.{StopsLoadInto};
+ghost use Rattle.rrs_exec.specs.Mending.{Mending};
+ghost use Rattle.rrs_linux.specs.SystemCalls.{Serves};
 ghost use Rattle.rrs_run_commands.specs.Execution.{ExecutesProgram};
 
 use crate::files::read_program;
 use crate::refusal::{Refusal, unloaded};
 use rrs_cli::fault::RunFault;
 use rrs_cli::loading::load;
-use rrs_exec::{DECODED_WORDS, InPieces, Progress};
-use rrs_fast::{CachedMemory, Ending, OwnCache, ServedEnd, run_served};
+use rrs_exec::{DECODED_WORDS, InPieces, Progress, run_mended};
+use rrs_fast::{CachedMemory, Ending, OwnCache, ServedEnd};
 use rrs_lib::HartState;
 use rrs_lib::instruction_executor::InstructionExecutor;
 use rrs_linux::Linux;
@@ -27,7 +29,8 @@ pub const HEAP_START: u32 = 0x0008_0000;
 pub const HEAP_END: u32 = 0x000c_0000;
 
 /// Runs a reader's bytes as a program, and serves its system calls, for `limit` steps or until it
-/// ends or raises an exception. The progress is told of its steps, and of its end.
+/// ends or raises an exception that is not mended. The progress is told of its steps, and of its
+/// end.
 ///
 /// # Errors
 ///
@@ -37,10 +40,12 @@ pub fn execute<F: Read, R: Read, W: Write, E: Write, P: Progress>(
     alloc: Global,
     program: &mut F,
     limit: u64,
+    strict: bool,
     environment: &mut Linux<R, W, E>,
     progress: &mut P,
 ) -> Result<Ending, RunFault>
-    ensures executed { IfOk result (ExecutesProgram R.remaining W.contents E.contents limit
+    ensures executed { IfOk result (ExecutesProgram
+        (Mending (Serves R.remaining W.contents E.contents) strict) limit
         (F.remaining program.old) (F.remaining program.new) environment.old environment.new) }
     ensures fault { IfErr result
         (StopsLoadInto 262144 (F.remaining program.old) (F.remaining program.new)) }
@@ -58,7 +63,8 @@ pub fn execute<F: Read, R: Read, W: Write, E: Write, P: Progress>(
         runner: OwnCache,
         progress: &mut *progress,
     };
-    let ServedEnd { steps: _, ending } = run_served(&mut runner, &mut executor, environment, limit);
+    let end = run_mended(&mut runner, &mut executor, environment, strict, limit);
+    let ServedEnd { steps: _, ending } = end;
     progress.end();
     Ok(ending)
 }
@@ -72,6 +78,7 @@ pub fn execute_file<'a, H: Files + AllocGlobal, R: Read, W: Write, E: Write, P: 
     rt: &H,
     path: &'a str,
     limit: u64,
+    strict: bool,
     environment: &mut Linux<R, W, E>,
     progress: &mut P,
 ) -> Result<Ending, Refusal<'a>> {
@@ -80,6 +87,7 @@ pub fn execute_file<'a, H: Files + AllocGlobal, R: Read, W: Write, E: Write, P: 
         rt.alloc(),
         &mut file.as_slice(),
         limit,
+        strict,
         environment,
         progress,
     ) {

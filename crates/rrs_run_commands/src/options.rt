@@ -37,6 +37,8 @@ pub enum Switch {
     Quiet,
     /// `--raw`.
     Raw,
+    /// `--strict-alignment`.
+    Strict,
     /// `--annotate`.
     Annotate,
     /// `--gnu`.
@@ -83,9 +85,10 @@ pub enum Setting {
 }
 
 /// The words of all options.
-pub static WORDS: [&str; 21] = [
+pub static WORDS: [&str; 22] = [
     "--quiet",
     "--raw",
+    "--strict-alignment",
     "--annotate",
     "--gnu",
     "--list",
@@ -115,6 +118,7 @@ fn switch_named(name: &str) -> Option<Switch>
     match name {
         "--quiet" => Some(Switch::Quiet),
         "--raw" => Some(Switch::Raw),
+        "--strict-alignment" => Some(Switch::Strict),
         "--annotate" => Some(Switch::Annotate),
         "--gnu" => Some(Switch::Gnu),
         "--list" => Some(Switch::Listed),
@@ -158,6 +162,7 @@ fn has_switch(task: Task, switch: Switch) -> bool
             task,
             Task::Execute | Task::Debug | Task::Board | Task::DebugBoard
         ),
+        Switch::Strict => matches!(task, Task::Execute),
         Switch::Annotate => matches!(task, Task::Cover),
         Switch::Gnu | Switch::Listed | Switch::Rars | Switch::Anywhere => {
             matches!(task, Task::Assemble)

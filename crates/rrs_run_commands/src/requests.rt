@@ -34,6 +34,8 @@ pub struct Request<'a> {
     /// Whether the file's bytes are the program, or the image for a board, and not an ELF file:
     /// `--raw`.
     pub is_raw: bool,
+    /// Whether a load or a store at a misaligned address is a fault: `--strict-alignment`.
+    pub is_strict: bool,
     /// Whether the report is the disassembly with counts: `--annotate`.
     pub is_annotated: bool,
     /// Whether a source may name files by any path: `--incbin-anywhere`.
@@ -90,6 +92,7 @@ fn unasked<'a>(task: Task) -> Request<'a>
     Request {
         is_quiet: false,
         is_raw: false,
+        is_strict: false,
         is_annotated: false,
         has_any_file: false,
         is_polled: false,
@@ -262,6 +265,7 @@ fn switched(request: Request<'_>, switch: Switch) -> Request<'_>
     match switch {
         Switch::Quiet => request.is_quiet = true,
         Switch::Raw => request.is_raw = true,
+        Switch::Strict => request.is_strict = true,
         Switch::Annotate => request.is_annotated = true,
         Switch::Gnu => request.form = Form::Source,
         Switch::Listed => request.form = Form::Listing,

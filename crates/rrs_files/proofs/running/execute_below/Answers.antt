@@ -22,10 +22,7 @@ returns-clause-executed g c =
           first = below.first;
           begins = below.begins ∙ ap (λ heap. record process { heap = heap }) c.new-process.ensures;
           has = refl;
-          end = below.runs.end;
-          stands = below.runs.stands;
-          accesses = below.runs.accesses;
-          served = below.runs.served;
+          runs = below.runs;
         };
       };
     }

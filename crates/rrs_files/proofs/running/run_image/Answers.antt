@@ -5,13 +5,9 @@ use Rattle.rrs_files.proofs.running.run_image.Goals as goal
 pub returns : goal.returns
 returns g c =
     let old = c.args.environment.now.process.now in
-    let run = c.serve_image.ensures in
     record {
       first = _;
       begins = ap (λ heap. record old { heap = heap }) c.new-environment.ensures;
       has = refl;
-      end = run.end;
-      stands = run.stands;
-      accesses = run.accesses;
-      served = run.served;
+      runs = c.serve_image.ensures;
     }
