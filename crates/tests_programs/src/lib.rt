@@ -10,6 +10,8 @@ mod account;
 #[cfg(test)]
 mod machine;
 #[cfg(test)]
+mod mending;
+#[cfg(test)]
 mod programs;
 #[cfg(test)]
 mod progress;
