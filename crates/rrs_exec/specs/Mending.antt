@@ -45,11 +45,12 @@ anywhere_by _ _ s = None
 abbrev pub byte_read : ByteMap → ℕ → List Access
 byte_read bytes a = if nat_lt a (2 ^ 32) then Read a Byte (little_endian bytes a 1) ∷ [] else []
 
--- the n bytes from a on are read, in order, up to one that is not mapped
+-- a byte is read behind others, where all of these are mapped
 abbrev pub read_after : Option ℕ → ByteMap → ℕ → List Access
 read_after None bytes a = []
 read_after (Some value) bytes a = byte_read bytes a
 
+-- the n bytes from a on are read, in order, up to one that is not mapped
 abbrev pub byte_reads : ByteMap → ℕ → ℕ → List Access
 byte_reads bytes a zero = []
 byte_reads bytes a (suc n) =
