@@ -9,12 +9,12 @@ use Rattle.rrs_board.specs.declared.effects.BoardEvent.TheVariants.{Transmitted,
 use Rattle.rrs_board.specs.declared.terminal.TerminalError.{TerminalError}
 use Rattle.rrs_board.specs.declared.terminal.TerminalError.TheVariants.{Input, Output}
 use Rattle.rrs_board.specs.Effects.{waits_for_input}
-use Rattle.rrs_board.specs.Boards.{BoardRun}
-use Rattle.rrs_board.specs.Terminals.{printed_by, Goes, Session, Served, ServedAndRun, EndsSession, EndedSession, Asks, StoppedSession, GoesOn, EndsBy, Asked, Untouched}
+use Rattle.rrs_board.specs.Terminals.{Runner, printed_by, Goes, Session, Served, ServedAndRun, EndsSession, EndedSession, Asks, StoppedSession, GoesOn, EndsBy, Asked, Untouched}
 
-pub session_starts : (limit : ℕ) (start : Board) (input before : Option (List ℕ))
-    → Served limit start input input before before 0 start
-session_starts limit start input before = record {
+pub session_starts : {V : Type 0} (runs : Runner V) (limit : ℕ) (start : Board) (begun : V)
+    (input before : Option (List ℕ))
+    → Served runs limit start begun input input before before 0 start begun
+session_starts runs limit start begun input before = record {
   typed = [];
   printed = [];
   session = Session.Starts;
@@ -23,13 +23,14 @@ session_starts limit start input before = record {
 }
 
 -- a run of the board, whose event is served
-pub session_goes : (limit : ℕ) (start : Board) (input rest left before between after : Option (List ℕ))
-    (steps more : ℕ) (event : BoardEvent) (old mid new : Board)
-    → Served limit start input rest before between steps old
-    → BoardRun (limit - steps) old more (Some event) mid
+pub session_goes : {V : Type 0} (runs : Runner V) (limit : ℕ) (start : Board) (begun : V)
+    (input rest left before between after : Option (List ℕ))
+    (steps more : ℕ) (event : BoardEvent) (old mid new : Board) (v w : V)
+    → Served runs limit start begun input rest before between steps old v
+    → runs v steps (limit - steps) old more (Some event) mid w
     → GoesOn event mid new rest left between after
-    → Served limit start input left before after (steps + more) new
-session_goes limit start input rest left before between after steps more event old mid new so_far run served =
+    → Served runs limit start begun input left before after (steps + more) new w
+session_goes runs limit start begun input rest left before between after steps more event old mid new v w so_far run served =
     record {
       typed = so_far.typed ++ served.bytes;
       printed = so_far.printed ++ printed_by event;
@@ -46,17 +47,19 @@ consumed_none input between rest typed given none =
     (Consumes-trans input between rest typed [] given none)
 
 -- a run of the board, whose event is not served
-abbrev pub session_run : (limit : ℕ) (start : Board) (input rest left before between after : Option (List ℕ))
-    (steps more : ℕ) (event : Option BoardEvent) (old mid new : Board)
-    → Served limit start input rest before between steps old
-    → BoardRun (limit - steps) old more event mid
+abbrev pub session_run : {V : Type 0} (runs : Runner V) (limit : ℕ) (start : Board) (begun : V)
+    (input rest left before between after : Option (List ℕ))
+    (steps more : ℕ) (event : Option BoardEvent) (old mid new : Board) (v w : V)
+    → Served runs limit start begun input rest before between steps old v
+    → runs v steps (limit - steps) old more event mid w
     → Untouched mid new rest left between after
-    → ServedAndRun limit start input left before after (steps + more) event new
-session_run limit start input rest left before between after steps more event old mid new so_far run stays =
+    → ServedAndRun runs limit start begun input left before after (steps + more) event new w
+session_run runs limit start begun input rest left before between after steps more event old mid new v w so_far run stays =
     record {
       earlier = steps;
       more = more;
       mid = old;
+      at = v;
       served = record {
         typed = so_far.typed;
         printed = so_far.printed;
@@ -64,7 +67,7 @@ session_run limit start input rest left before between after steps more event ol
         consumed = consumed_none input rest left so_far.typed so_far.consumed stays.consumed;
         appended = Appends-kept before between after so_far.printed so_far.appended stays.kept;
       };
-      last = subst (λ b. BoardRun (limit - steps) old more event b) (sym stays.same) run;
+      last = subst (λ b. runs v steps (limit - steps) old more event b w) (sym stays.same) run;
       counted = refl;
     }
 
@@ -93,21 +96,23 @@ ends_by input rest typed Looked b ended ends at_end consumed = absurd ends
 ends_by input rest typed Waits b ended ends at_end consumed = absurd ends
 
 -- the output is flushed at the end
-pub session_finishes : (limit : ℕ) (start : Board) (input rest before between after : Option (List ℕ))
-    (steps : ℕ) (event : Option BoardEvent) (new : Board) (r : Result BoardEnd TerminalError)
-    → (made : ServedAndRun limit start input rest before between steps event new)
+pub session_finishes : {V : Type 0} (runs : Runner V) (limit : ℕ) (start : Board) (begun : V)
+    (input rest before between after : Option (List ℕ))
+    (steps : ℕ) (event : Option BoardEvent) (new : Board) (w : V) (r : Result BoardEnd TerminalError)
+    → (made : ServedAndRun runs limit start begun input rest before between steps event new w)
     → EndsSession event new input made.served.typed
     → Keeps between after
     → IfOk r (λ end. (end.steps ≡ steps) × (end.event ≡ event))
     → IfErr r (λ error. error ≡ Output)
-    → IfOk r (λ end. EndedSession limit start input rest before after end.steps end.event new)
-    × IfErr r (λ error. StoppedSession limit start input rest before after error new)
-session_finishes limit start input rest before between after steps event new (Ok end) made ends kept is fails =
-    let flushed : EndedSession limit start input rest before after steps event new = record {
+    → IfOk r (λ end. EndedSession runs limit start begun input rest before after end.steps end.event new w)
+    × IfErr r (λ error. StoppedSession runs limit start begun input rest before after error new w)
+session_finishes runs limit start begun input rest before between after steps event new w (Ok end) made ends kept is fails =
+    let flushed : EndedSession runs limit start begun input rest before after steps event new w = record {
       made = record {
         earlier = made.earlier;
         more = made.more;
         mid = made.mid;
+        at = made.at;
         served = record {
           typed = made.served.typed;
           printed = made.served.printed;
@@ -121,7 +126,7 @@ session_finishes limit start input rest before between after steps event new (Ok
       ends = ends;
     } in
     (rw (is.0, is.1) flushed, tt)
-session_finishes limit start input rest before between after steps event new (Err error) made ends kept is fails = (
+session_finishes runs limit start begun input rest before between after steps event new w (Err error) made ends kept is fails = (
   tt,
   record {
     steps = steps;
@@ -130,6 +135,7 @@ session_finishes limit start input rest before between after steps event new (Er
       earlier = made.earlier;
       more = made.more;
       mid = made.mid;
+      at = made.at;
       served = record {
         typed = made.served.typed;
         printed = made.served.printed;
@@ -145,20 +151,21 @@ session_finishes limit start input rest before between after steps event new (Er
 )
 
 -- the board stays at the event of its last run
-pub session_ends : (limit : ℕ) (start : Board) (input rest left before between flushed after : Option (List ℕ))
-    (steps more : ℕ) (event : BoardEvent) (old mid new : Board) (ended : Bool) (r : Result BoardEnd TerminalError)
-    → Served limit start input rest before between steps old
-    → BoardRun (limit - steps) old more (Some event) mid
+pub session_ends : {V : Type 0} (runs : Runner V) (limit : ℕ) (start : Board) (begun : V)
+    (input rest left before between flushed after : Option (List ℕ))
+    (steps more : ℕ) (event : BoardEvent) (old mid new : Board) (v w : V) (ended : Bool) (r : Result BoardEnd TerminalError)
+    → Served runs limit start begun input rest before between steps old v
+    → runs v steps (limit - steps) old more (Some event) mid w
     → Untouched mid new rest left between flushed
     → EndsBy event new ended → (ended ≡ true → IsAtEnd left)
     → Keeps flushed after
     → IfOk r (λ end. (end.steps ≡ steps + more) × (end.event ≡ Some event))
     → IfErr r (λ error. error ≡ Output)
-    → IfOk r (λ end. EndedSession limit start input left before after end.steps end.event new)
-    × IfErr r (λ error. StoppedSession limit start input left before after error new)
-session_ends limit start input rest left before between flushed after steps more event old mid new ended r so_far run stays ends at_end kept is fails =
-    let made = session_run limit start input rest left before between flushed steps more (Some event) old mid new so_far run stays in
-    session_finishes limit start input left before flushed after (steps + more) (Some event) new r made
+    → IfOk r (λ end. EndedSession runs limit start begun input left before after end.steps end.event new w)
+    × IfErr r (λ error. StoppedSession runs limit start begun input left before after error new w)
+session_ends runs limit start begun input rest left before between flushed after steps more event old mid new v w ended r so_far run stays ends at_end kept is fails =
+    let made = session_run runs limit start begun input rest left before between flushed steps more (Some event) old mid new v w so_far run stays in
+    session_finishes runs limit start begun input left before flushed after (steps + more) (Some event) new w r made
     (ends_by input left so_far.typed event new ended ends at_end made.served.consumed) kept is fails
 
 is_false : (b : Bool) → (b ≡ true → ⊥) → b ≡ false
@@ -186,45 +193,26 @@ none_waits b steps (Err error) is = tt
 none_waits b steps (Ok end) is = λ at. absurd (cc (at, is.1))
 
 -- an event that can't be served
-pub session_stops : (limit : ℕ) (start : Board) (input rest left before between after : Option (List ℕ))
-    (steps more : ℕ) (event : BoardEvent) (old mid new : Board) (error : TerminalError)
-    → Served limit start input rest before between steps old
-    → BoardRun (limit - steps) old more (Some event) mid
+pub session_stops : {V : Type 0} (runs : Runner V) (limit : ℕ) (start : Board) (begun : V)
+    (input rest left before between after : Option (List ℕ))
+    (steps more : ℕ) (event : BoardEvent) (old mid new : Board) (v w : V) (error : TerminalError)
+    → Served runs limit start begun input rest before between steps old v
+    → runs v steps (limit - steps) old more (Some event) mid w
     → (error ≡ Input → Asks event) × Untouched mid new rest left between after
-    → StoppedSession limit start input left before after error new
-session_stops limit start input rest left before between after steps more event old mid new error so_far run failed =
+    → StoppedSession runs limit start begun input left before after error new w
+session_stops runs limit start begun input rest left before between after steps more event old mid new v w error so_far run failed =
     record {
       steps = steps + more;
       event = Some event;
-      made = session_run limit start input rest left before between after steps more (Some event) old mid new
-          so_far run failed.1;
+      made = session_run runs limit start begun input rest left before between after steps more (Some event) old mid new
+          v w so_far run failed.1;
       asked = λ is. failed.0 is;
     }
 
 -- an event that is named
-pub run_is : (limit more : ℕ) (old mid : Board) (e f : Option BoardEvent)
-    → BoardRun limit old more e mid → e ≡ f → BoardRun limit old more f mid
-run_is limit more old mid e f run is = subst (λ x. BoardRun limit old more x mid) is run
-
--- the limit is reached
-pub session_at_limit : (limit : ℕ) (start : Board) (input rest before between after : Option (List ℕ))
-    (steps : ℕ) (new : Board) (r : Result BoardEnd TerminalError)
-    → Served limit start input rest before between steps new
-    → limit ≤ steps
-    → Keeps between after
-    → IfOk r (λ end. (end.steps ≡ steps) × (end.event ≡ None))
-    → IfErr r (λ error. error ≡ Output)
-    → IfOk r (λ end. EndedSession limit start input rest before after end.steps end.event new)
-    × IfErr r (λ error. StoppedSession limit start input rest before after error new)
-session_at_limit limit start input rest before between after steps new r so_far reached kept is fails =
-    session_finishes limit start input rest before between after steps None new r (record {
-      earlier = steps;
-      more = 0;
-      mid = new;
-      served = so_far;
-      last = (omega arith, refl);
-      counted = omega arith;
-    }) tt kept is fails
+pub run_is : {V : Type 0} (runs : Runner V) (v w : V) (made most more : ℕ) (old mid : Board) (e f : Option BoardEvent)
+    → runs v made most old more e mid w → e ≡ f → runs v made most old more f mid w
+run_is runs v w made most more old mid e f run is = subst (λ x. runs v made most old more x mid w) is run
 
 -- what a later read gives
 pub given_later : (input between rest : Option (List ℕ)) (byte : Option ℕ)

@@ -1,6 +1,7 @@
 -- A board at a terminal. What the program transmits is printed, and what is typed arrives at its
 -- UART. Between two runs of the board a byte may arrive, where the UART holds none. When that is so
--- is no part of this: a person types when he likes.
+-- is no part of this: a person types when he likes. Nor is what makes the runs: it makes steps of
+-- the board, and may keep what it has seen of them.
 use Rattle.std.specs.Prelude.{◌≡◌, ℕ, ◌+◌, ◌-◌, Bool, true, List, [], ◌∷◌, ◌++◌, nat_lt, if◌then◌else◌, Option, Some, None, IfSome}
 use Rattle.std.specs.Io.KnownBytes.{Appends, Consumes, Keeps}
 use Rattle.rrs_board.specs.declared.board.Board.{Board}
@@ -33,36 +34,49 @@ Goes (Finished status) b = ⊥
 Goes NothingWakes b = waits_for_input b.memory.devices ≡ true
 Goes event b = Unit {0}
 
--- From a board on so many steps were made, these bytes of the input were typed and these printed,
--- and then the board is this one.
-pub data Session (limit : ℕ) (start : Board) : ℕ → List ℕ → List ℕ → Board → Type 0 where
-  Starts : Session limit start 0 [] [] start
-  -- a run of the board, what it transmits is printed, and then a byte may arrive
-  Runs : {steps more : ℕ} {typed printed : List ℕ} {event : BoardEvent} {old mid new : Board}
-      → (bytes : List ℕ) → Session limit start steps typed printed old
-      → BoardRun (limit - steps) old more (Some event) mid
-      → Goes event mid → Arrives bytes mid new
-      → Session limit start (steps + more) (typed ++ bytes) (printed ++ printed_by event) new
+-- What runs boards, by what it keeps: after so many steps that were made before, at most so many
+-- are made from a board on; how many were, the event of the last one, and the board after them.
+abbrev pub Runner : Type 0 → Type 1
+Runner V = V → ℕ → ℕ → Board → ℕ → Option BoardEvent → Board → V → Type 0
 
--- A session so far, by the bytes of the input and of the output before and after it, where these
--- are known: what was typed was read, what was transmitted was printed, and nothing else.
-pub record Served (limit : ℕ) (start : Board) (input rest before after : Option (List ℕ))
-    (steps : ℕ) (new : Board) : Type 0 where
-  pub typed : List ℕ
-  pub printed : List ℕ
-  pub session : Session limit start steps typed printed new
-  pub consumed : Consumes input rest typed
-  pub appended : Appends before after printed
+-- the runs of a board alone, of which nothing is kept
+abbrev pub plain_runs : {V : Type 0} → Runner V
+plain_runs v made most old steps event new w = BoardRun most old steps event new
 
--- the session so far, and a further run of the board, whose event is not served
-pub record ServedAndRun (limit : ℕ) (start : Board) (input rest before after : Option (List ℕ))
-    (steps : ℕ) (event : Option BoardEvent) (new : Board) : Type 0 where
-  pub earlier : ℕ
-  pub more : ℕ
-  pub mid : Board
-  pub served : Served limit start input rest before after earlier mid
-  pub last : BoardRun (limit - earlier) mid more event new
-  pub counted : steps ≡ earlier + more
+-- By what runs the board, the limit, and what the board and it were at the start:
+module _ {V : Type 0} (runs : Runner V) (limit : ℕ) (start : Board) (begun : V) where
+  -- So many steps were made, these bytes of the input were typed and these printed, and then the
+  -- board is this one.
+  pub data Session : ℕ → List ℕ → List ℕ → Board → V → Type 0 where
+    Starts : Session 0 [] [] start begun
+    -- a run of the board, what it transmits is printed, and then a byte may arrive
+    Runs : {steps more : ℕ} {typed printed : List ℕ} {event : BoardEvent} {old mid new : Board}
+        {v w : V}
+        → (bytes : List ℕ) → Session steps typed printed old v
+        → runs v steps (limit - steps) old more (Some event) mid w
+        → Goes event mid → Arrives bytes mid new
+        → Session (steps + more) (typed ++ bytes) (printed ++ printed_by event) new w
+
+  -- A session so far, by the bytes of the input and of the output before and after it, where these
+  -- are known: what was typed was read, what was transmitted was printed, and nothing else.
+  pub record Served (input rest before after : Option (List ℕ)) (steps : ℕ) (new : Board) (v : V)
+      : Type 0 where
+    pub typed : List ℕ
+    pub printed : List ℕ
+    pub session : Session steps typed printed new v
+    pub consumed : Consumes input rest typed
+    pub appended : Appends before after printed
+
+  -- the session so far, and a further run of the board, whose event is not served
+  pub record ServedAndRun (input rest before after : Option (List ℕ))
+      (steps : ℕ) (event : Option BoardEvent) (new : Board) (w : V) : Type 0 where
+    pub earlier : ℕ
+    pub more : ℕ
+    pub mid : Board
+    pub at : V
+    pub served : Served input rest before after earlier mid at
+    pub last : runs at earlier (limit - earlier) mid more event new w
+    pub counted : steps ≡ earlier + more
 
 -- the events at which a session ends: at a wait that input can end all of the input was typed
 abbrev pub EndsSession : Option BoardEvent → Board → Option (List ℕ) → List ℕ → Type 0
@@ -71,12 +85,6 @@ EndsSession (Some (Finished status)) b input typed = Unit {0}
 EndsSession (Some NothingWakes) b input typed =
     waits_for_input b.memory.devices ≡ true → IfSome input (λ all. all ≡ typed)
 EndsSession (Some event) b input typed = ⊥
-
--- A session ends at the limit, with the program, or at a wait that nothing ends.
-pub record EndedSession (limit : ℕ) (start : Board) (input rest before after : Option (List ℕ))
-    (steps : ℕ) (event : Option BoardEvent) (new : Board) : Type 0 where
-  pub made : ServedAndRun limit start input rest before after steps event new
-  pub ends : EndsSession event new input made.served.typed
 
 -- the events at which a byte may be read
 abbrev pub Asks : BoardEvent → Type 0
@@ -88,14 +96,21 @@ abbrev pub AsksAt : Option BoardEvent → Type 0
 AsksAt None = ⊥
 AsksAt (Some event) = Asks event
 
--- A session is stopped where a read of the input fails, or a write or a flush of the output: the
--- event of the last run was not served.
-pub record StoppedSession (limit : ℕ) (start : Board) (input rest before after : Option (List ℕ))
-    (error : TerminalError) (new : Board) : Type 0 where
-  pub steps : ℕ
-  pub event : Option BoardEvent
-  pub made : ServedAndRun limit start input rest before after steps event new
-  pub asked : error ≡ Input → AsksAt event
+module _ {V : Type 0} (runs : Runner V) (limit : ℕ) (start : Board) (begun : V) where
+  -- A session ends at the limit, with the program, or at a wait that nothing ends.
+  pub record EndedSession (input rest before after : Option (List ℕ))
+      (steps : ℕ) (event : Option BoardEvent) (new : Board) (w : V) : Type 0 where
+    pub made : ServedAndRun runs limit start begun input rest before after steps event new w
+    pub ends : EndsSession event new input made.served.typed
+
+  -- A session is stopped where a read of the input fails, or a write or a flush of the output: the
+  -- event of the last run was not served.
+  pub record StoppedSession (input rest before after : Option (List ℕ))
+      (error : TerminalError) (new : Board) (w : V) : Type 0 where
+    pub steps : ℕ
+    pub event : Option BoardEvent
+    pub made : ServedAndRun runs limit start begun input rest before after steps event new w
+    pub asked : error ≡ Input → AsksAt event
 
 -- ---- one event
 

@@ -11,6 +11,7 @@ ghost use Rattle.rrs_board.specs.Terminals.{looks_after, Asks, EndsBy, GoesOn, A
 use crate::asking::Asking;
 use crate::board::{Board, BoardEnd};
 use crate::effects::BoardEvent;
+use crate::runs::BoardRunner;
 use std::io::{self, ErrorKind, Read, Write};
 
 /// Why a board at a terminal was stopped.
@@ -22,9 +23,9 @@ pub enum TerminalError {
     Output,
 }
 
-/// Runs a board until it ends or `limit` steps were made. Each byte that it transmits is written to
-/// `output`, which is flushed before input is read and at the end. Input is read byte by byte, and
-/// each byte arrives at the UART: after a thousand looks in a row that find none, between which
+/// Has a board run until it ends or `limit` steps were made. Each byte that it transmits is written
+/// to `output`, which is flushed before input is read and at the end. Input is read byte by byte,
+/// and each byte arrives at the UART: after a thousand looks in a row that find none, between which
 /// nothing is transmitted, and at a `wfi` that no alarm can end where IER asks for received data.
 /// Where the input is polled (`is_polled`) it is read at each `wfi` that waits too, and a read of
 /// no bytes means that there is none yet. Otherwise the input is then at its end.
@@ -40,27 +41,28 @@ pub enum TerminalError {
 ///
 /// `TerminalError::Input` where a read fails, `TerminalError::Output` where a write or a flush
 /// does.
-pub fn run_at_terminal<R: Read, W: Write>(
+pub fn run_at_terminal<V: BoardRunner, R: Read, W: Write>(
+    runner: &mut V,
     board: &mut Board,
     limit: u64,
     is_polled: bool,
     input: &mut R,
     output: &mut W,
 ) -> Result<BoardEnd, TerminalError>
-    ensures session { IfOk result (λ end. EndedSession limit board.old
+    ensures session { IfOk result (λ end. EndedSession V.runs limit board.old runner.old
         (R.remaining input.old) (R.remaining input.new)
-        (W.contents output.old) (W.contents output.new) end.steps end.event board.new) }
-    ensures stopped { IfErr result (λ error. StoppedSession limit board.old
+        (W.contents output.old) (W.contents output.new) end.steps end.event board.new runner.new) }
+    ensures stopped { IfErr result (λ error. StoppedSession V.runs limit board.old runner.old
         (R.remaining input.old) (R.remaining input.new)
-        (W.contents output.old) (W.contents output.new) error board.new) }
+        (W.contents output.old) (W.contents output.new) error board.new runner.new) }
     ensures polled { is_polled ≡ true → IfOk result (λ end.
         end.event ≡ Some BoardEvent.NothingWakes
         → waits_for_input board.new.memory.devices ≡ false) }
 {
     let mut asking = Asking::new(is_polled);
     let mut steps = 0;
-    'runs: while steps < limit {
-        let end = board.run(limit - steps);
+    'runs: loop {
+        let end = runner.run(board, steps, limit - steps);
         steps += end.steps;
         match end.event {
             Some(event) => {
@@ -71,7 +73,6 @@ pub fn run_at_terminal<R: Read, W: Write>(
             None => return finish(output, steps, None),
         }
     }
-    finish(output, steps, None)
 }
 
 /// Serves an event, and says whether the board goes on.

@@ -2,11 +2,12 @@
 
 use crate::files::{Noting, STANDARD_INPUT, STANDARD_OUTPUT, buffered, read_program};
 use crate::options::{Task, most_memory, usual_memory};
-use crate::refusal::{Refusal, named, no_image, out_of_memory};
+use crate::refusal::{FileFault, HostFault, Refusal, no_image, out_of_memory};
 use crate::requests::Request;
 use rrs_board::memory::RAM_START;
 use rrs_board::{
-    Board, BoardEnd, BoardError, BoardEvent, Profile, TerminalError, device_tree, run_at_terminal,
+    Board, BoardEnd, BoardError, BoardEvent, PlainRuns, Profile, TerminalError, device_tree,
+    run_at_terminal,
 };
 use rrs_exec::ImageError;
 use rrs_fast::Ending;
@@ -94,41 +95,70 @@ pub fn board_of<'a, H: Files + AllocGlobal>(
     rt: &H,
     request: Request<'a>,
 ) -> Result<Board, Refusal<'a>> {
-    let path = request.path();
-    let file = read_program(rt, path)?;
+    let file = read_program(rt, request.path())?;
+    board_with(rt, request, &file)
+}
+
+/// The same, with the firmware of a file that was read.
+///
+/// # Errors
+///
+/// Those of `board_of`.
+pub(crate) fn board_with<'a, H: Files + AllocGlobal>(
+    rt: &H,
+    request: Request<'a>,
+    file: &[u8],
+) -> Result<Board, Refusal<'a>> {
     let bytes = request.memory.unwrap_or(usual_memory(Task::Board));
     let bytes = bytes.min(most_memory(Task::Board));
     let tree = tree_of(rt, request, bytes)?;
     let words = (bytes / 4) as usize;
     let (loaded, image) = if request.is_raw {
-        (Board::load_image(rt.alloc(), &file, words), file.len())
+        (Board::load_image(rt.alloc(), file, words), file.len())
     } else {
-        (Board::load(rt.alloc(), &file, words), 0)
+        (Board::load(rt.alloc(), file, words), 0)
     };
     let mut board = match loaded {
         Ok(board) => board,
-        Err(error) => return Err(refused(path, &file, error)),
+        Err(error) => return Err(refused(request.path(), file, error)),
     };
     board.set_profile(PROFILE);
     match hand_tree(&mut board, tree, image, bytes) {
         Ok(()) => Ok(board),
-        Err(error) => Err(refused(path, &file, error)),
+        Err(error) => Err(refused(request.path(), file, error)),
     }
 }
 
-/// How the run ended. A `wfi` that nothing wakes is told on standard error: where it is, and after
-/// how many steps.
-fn ending_of<H: Eprint>(rt: &H, board: &Board, end: BoardEnd) -> Ending {
+/// How the run ended. A `wfi` that nothing wakes is told on standard error, after the name of the
+/// program: where it is, and after how many steps.
+pub(crate) fn ending_of<H: Eprint>(rt: &H, name: &str, board: &Board, end: BoardEnd) -> Ending {
     match end.event {
         Some(BoardEvent::Finished(status)) => Ending::Exit(status),
         Some(BoardEvent::NothingWakes) => {
             let (pc, steps) = (board.hart.pc.wrapping_sub(4), end.steps);
             let _ = eprintln!(rt;
-                "rrs board: wfi at pc 0x{pc:08x} waits, and nothing can wake it, after {steps} steps"
+                "{name}: wfi at pc 0x{pc:08x} waits, and nothing can wake it, after {steps} steps"
             );
             Ending::Exit(NOTHING_WAKES)
         }
         _ => Ending::Limit,
+    }
+}
+
+/// Why a board was stopped at its terminal, by why a read of the input and a write of the output
+/// failed.
+pub(crate) fn stopped<'a>(
+    error: TerminalError,
+    input: Option<HostFault>,
+    output: Option<HostFault>,
+) -> Refusal<'a> {
+    let (refusal, stream, fault) = match error {
+        TerminalError::Input => (Refusal::Input, STANDARD_INPUT, input),
+        TerminalError::Output => (Refusal::Output, STANDARD_OUTPUT, output),
+    };
+    match fault {
+        Some(fault) => Refusal::File(stream, FileFault::Host(fault)),
+        None => refusal,
     }
 }
 
@@ -145,33 +175,22 @@ pub fn run_board<'a, H: Files + Eprint + AllocGlobal, R: Read, W: Write>(
     input: &mut R,
     output: &mut W,
 ) -> Result<Ending, Refusal<'a>> {
-    let board = board_of(rt, request)?;
+    let mut board = board_of(rt, request)?;
     let (mut input, mut output) = (Noting::new(input), Noting::new(output));
-    let ended = run_loaded(rt, board, request, &mut input, &mut output);
-    match ended {
-        Err(Refusal::Input) => named(ended, STANDARD_INPUT, input.fault),
-        _ => named(ended, STANDARD_OUTPUT, output.fault),
-    }
-}
-
-/// Runs a board that is loaded.
-fn run_loaded<'a, H: Files + Eprint + AllocGlobal, R: Read, W: Write>(
-    rt: &H,
-    mut board: Board,
-    request: Request<'a>,
-    input: &mut R,
-    output: &mut W,
-) -> Result<Ending, Refusal<'a>> {
-    let mut out = buffered(rt.alloc(), output)?;
-    match run_at_terminal(
-        &mut board,
-        request.limit,
-        request.is_polled,
-        input,
-        &mut out,
-    ) {
-        Ok(end) => Ok(ending_of(rt, &board, end)),
-        Err(TerminalError::Input) => Err(Refusal::Input),
-        Err(TerminalError::Output) => Err(Refusal::Output),
+    let run = {
+        let mut out = buffered(rt.alloc(), &mut output)?;
+        let (limit, is_polled) = (request.limit, request.is_polled);
+        run_at_terminal(
+            &mut PlainRuns,
+            &mut board,
+            limit,
+            is_polled,
+            &mut input,
+            &mut out,
+        )
+    };
+    match run {
+        Ok(end) => Ok(ending_of(rt, "rrs board", &board, end)),
+        Err(error) => Err(stopped(error, input.fault, output.fault)),
     }
 }

@@ -27,4 +27,4 @@ pub use csrs::{Csr, Profile};
 pub use encoding::{encode_atomic, encode_system};
 pub use instructions::{SystemInstruction, SystemRow, decode_system};
 pub use layers::{LayerInstruction, decode_layer, encode_layer, layer_text};
-pub use texts::{LayerText, csr_named, system_text};
+pub use texts::{LayerText, csr_name, csr_named, system_text};

@@ -99,6 +99,16 @@ fn push_csr(text: &mut LayerText, number: u32)
     }
 }
 
+/// The name of a CSR by its number, or its number in hexadecimal where no profile has it.
+pub fn csr_name(number: u32) -> LayerText
+    ensures name { result.bytes ≡ csr_name number }
+    ensures length { length result.bytes ≤ 22 }
+{
+    let mut text = LayerText::new();
+    push_csr(&mut text, number);
+    text
+}
+
 /// Whether some hart has a CSR with this number, and it has this name.
 fn is_named(number: u32, name: &[u8]) -> bool
     ensures yes { OnTrue result ((csr_name number ≡ name.now)
@@ -108,9 +118,7 @@ fn is_named(number: u32, name: &[u8]) -> bool
     if Csr::at(Profile::with_atomics_and_user_mode(), number).is_none() {
         return false;
     }
-    let mut text = LayerText::new();
-    push_csr(&mut text, number);
-    text.as_bytes() == name
+    csr_name(number).as_bytes() == name
 }
 
 /// The number of the CSR that has a name, or `None` where none has it, whatever the profile.
