@@ -1,4 +1,5 @@
 pub mod Records
+pub mod BoardSessions
 pub mod Covering
 pub mod Logging
 pub mod Unrecorded

@@ -1,7 +1,7 @@
 -- The commit log of Spike, the RISC-V ISA simulator: a line for each instruction that retires, with
 -- the hart, the privilege mode, the pc and the word, the register that it wrote with its value, and
 -- its load or store. Each line ends with a line feed, which is 10.
-use Rattle.std.specs.Prelude.{◌≡◌, ℕ, ◌==◌, nat_lt, if◌then◌else◌, Bool, true, false, List, [], ◌∷◌, ◌++◌, codes, Option, Some, None}
+use Rattle.std.specs.Prelude.{◌≡◌, ℕ, ◌==◌, nat_lt, if◌then◌else◌, Bool, true, false, List, [], ◌∷◌, ◌++◌, map, codes, Option, Some, None}
 use Rattle.std.specs.Fmt.{decimal}
 use Rattle.std.specs.Io.KnownBytes.{Appends}
 use Rattle.rrs_lib.specs.Texts.{hexadecimal}
@@ -37,20 +37,48 @@ written_text r value =
 abbrev pub store_digits : ℕ → ℕ
 store_digits mask = if mask == 1 then 2 else (if mask == 3 then 4 else 8)
 
--- the address of a load, and that of a store with the value
-abbrev pub access_text : MemoryAccess → List ℕ
-access_text m =
-    if m.rmask == 0 then (if m.wmask == 0 then []
-    else codes " mem 0x" ++ hexadecimal 8 m.addr
-    ++ codes " 0x" ++ hexadecimal (store_digits m.wmask) m.wdata)
-    else codes " mem 0x" ++ hexadecimal 8 m.addr
+-- the address of what is read, and that of what is written with the value: an AMO has both
+abbrev pub load_text : MemoryAccess → List ℕ
+load_text m = if m.rmask == 0 then [] else codes " mem 0x" ++ hexadecimal 8 m.addr
 
--- the line of a record whose word was committed
+abbrev pub store_text : MemoryAccess → List ℕ
+store_text m =
+    if m.wmask == 0 then []
+    else codes " mem 0x" ++ hexadecimal 8 m.addr
+    ++ codes " 0x" ++ hexadecimal (store_digits m.wmask) m.wdata
+
+-- the digit of a privilege mode: 3 is machine mode, and else it is user mode
+abbrev pub mode_text : ℕ → List ℕ
+mode_text mode = if mode == 3 then codes "3" else codes "0"
+
+-- what begins the line of a record whose word was committed, in a mode
+abbrev pub committed_text : ℕ → ℕ → Retired → List ℕ
+committed_text mode word r =
+    codes "core   0: " ++ mode_text mode ++ codes " 0x" ++ hexadecimal 8 r.pc_rdata
+    ++ codes " (0x" ++ hexadecimal 8 word ++ codes ")" ++ written_text r.rd_addr r.rd_wdata
+
+-- and what ends it
+abbrev pub access_text : MemoryAccess → List ℕ
+access_text m = load_text m ++ store_text m ++ 10 ∷ []
+
+-- the line of a record of a process whose word was committed
 abbrev pub commit_text : ℕ → Retired → List ℕ
-commit_text word r =
-    codes "core   0: 3 0x" ++ hexadecimal 8 r.pc_rdata
-    ++ codes " (0x" ++ hexadecimal 8 word ++ codes ")"
-    ++ written_text r.rd_addr r.rd_wdata ++ access_text r.mem ++ 10 ∷ []
+commit_text word r = committed_text 3 word r ++ access_text r.mem
+
+-- ---- what a step has in a log
+
+-- a pc, and the lines
+pub record Entry : Type 0 where
+  pub pc : ℕ
+  pub lines : List ℕ
+
+-- of a step of a process: a line, if its word was committed
+abbrev pub entry_of : Retired → Entry
+entry_of r = record { pc = r.pc_rdata; lines = line_of (committed r) }
+  where
+    line_of : Option ℕ → List ℕ
+    line_of None = []
+    line_of (Some word) = commit_text word r
 
 -- ---- the watcher that writes the log
 
@@ -59,40 +87,36 @@ abbrev pub still_from : Option ℕ → ℕ → Option ℕ
 still_from None pc = None
 still_from (Some from) pc = if from == pc then None else Some from
 
--- the lines of a step: one, if its word was committed and lines are written by now
-abbrev pub lines_of : Option ℕ → Retired → List ℕ
-lines_of (Some from) r = []
-lines_of None r = line_of (committed r)
-  where
-    line_of : Option ℕ → List ℕ
-    line_of None = []
-    line_of (Some word) = commit_text word r
+-- these lines, if lines are written by now
+abbrev pub lines_from : Option ℕ → List ℕ → List ℕ
+lines_from (Some from) lines = []
+lines_from None lines = lines
 
 -- What a step makes of the watcher: its lines are written, unless a write failed by then, and then
 -- the watcher is broken. It writes to what it wrote to before.
-pub record Logs {W : Type 0} (contents : W → Option (List ℕ)) (old : CommitLog W) (r : Retired)
+pub record Logs {W : Type 0} (contents : W → Option (List ℕ)) (old : CommitLog W) (e : Entry)
     (new : CommitLog W) : Type 0 where
   pub same_out : new.out.ghost_name ≡ old.out.ghost_name
-  pub from : new.from ≡ still_from old.from r.pc_rdata
+  pub from : new.from ≡ still_from old.from e.pc
   pub stays_broken : old.is_broken ≡ true → new.is_broken ≡ true
   pub written : new.is_broken ≡ false → Appends (contents old.out.now) (contents new.out.now)
-      (lines_of (still_from old.from r.pc_rdata) r)
+      (lines_from (still_from old.from e.pc) e.lines)
 
 abbrev pub wants_lines : {W : Type 0} → CommitLog W → Bool
 wants_lines log = if log.is_broken then false else true
 
 -- ---- the log of a run
 
--- the address from which on lines are written, after these records
-abbrev pub from_after : Option ℕ → List Retired → Option ℕ
+-- the address from which on lines are written, after these entries
+abbrev pub from_after : Option ℕ → List Entry → Option ℕ
 from_after from [] = from
-from_after from (r ∷ records) = from_after (still_from from r.pc_rdata) records
+from_after from (e ∷ entries) = from_after (still_from from e.pc) entries
 
--- the lines of these records, from the first one at an address on, if one is asked for
-abbrev pub log_text : Option ℕ → List Retired → List ℕ
+-- the lines of these entries, from the first one at an address on, if one is asked for
+abbrev pub log_text : Option ℕ → List Entry → List ℕ
 log_text from [] = []
-log_text from (r ∷ records) =
-    lines_of (still_from from r.pc_rdata) r ++ log_text (still_from from r.pc_rdata) records
+log_text from (e ∷ entries) =
+    lines_from (still_from from e.pc) e.lines ++ log_text (still_from from e.pc) entries
 
 -- A run is one of `execute_process` with so many steps, and its log is what was written.
 pub record TracesProcess {R W E : Type 0} (remaining : R → Option (List ℕ))
@@ -103,4 +127,4 @@ pub record TracesProcess {R W E : Type 0} (remaining : R → Option (List ℕ))
   pub records : List Retired
   pub runs : RunsWithRecords remaining contents errors_of file arguments wanted limit old new
       steps pc ending records
-  pub written : Appends before after (log_text from records)
+  pub written : Appends before after (log_text from (map entry_of records))

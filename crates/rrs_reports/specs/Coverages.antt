@@ -1,5 +1,6 @@
--- How often each word of code was executed: the steps whose pc it was. A fault is no step.
-use Rattle.std.specs.Prelude.{◌≡◌, ℕ, ◌+◌, ◌-◌, ◌*◌, ◌/◌, ◌%◌, ◌^◌, ◌<◌, ◌==◌, if◌then◌else◌, nat_lt, cond, min, List, length, get_or, count_by, Bool, true, false, Option, Some, None}
+-- How often each word of code was executed: the steps whose pc it was. A fault is no step, and on a
+-- board no exception is but an ecall, and no interrupt.
+use Rattle.std.specs.Prelude.{◌≡◌, ℕ, ◌+◌, ◌-◌, ◌*◌, ◌/◌, ◌%◌, ◌^◌, ◌<◌, ◌==◌, if◌then◌else◌, nat_lt, cond, min, List, length, map, get_or, count_by, Bool, true, false, Option, Some, None}
 use Rattle.rrs_lib.specs.Bytes.{ByteMap, little_endian}
 use Rattle.rrs_trace.specs.declared.retired.Retired.{Retired}
 use Rattle.rrs_fast.specs.declared.serving.Ending.{Ending}
@@ -7,7 +8,11 @@ use Rattle.rrs_linux.specs.declared.Process.{Process}
 use Rattle.rrs_linux.specs.declared.host_writer.HostWriter.{HostWriter}
 use Rattle.rrs_linux.specs.declared.host_side.HostSide.{HostSide}
 use Rattle.rrs_reports.specs.CommitLogs.{committed}
+use Rattle.rrs_board.specs.declared.board.Board.{Board}
+use Rattle.rrs_board.specs.declared.effects.BoardEvent.{BoardEvent}
+use Rattle.rrs_board.specs.declared.runs.RecordedStep.{RecordedStep}
 use Rattle.rrs_reports.specs.Records.{RunsWithRecords}
+use Rattle.rrs_reports.specs.BoardRecords.{BoardWithRecords}
 use Rattle.rrs_reports.specs.declared.coverage.Coverage.{Coverage}
 
 -- whether one of so many words from the base on has this address
@@ -71,3 +76,10 @@ pub record CoversProcess {R W E : Type 0} (remaining : R → Option (List ℕ))
   pub runs : RunsWithRecords remaining contents errors_of file arguments wanted limit old new
       steps pc ending records
   pub covers : Covers records c
+
+-- A session at a terminal that ended so, and the counts are those of its steps.
+pub record CoversBoard (limit : ℕ) (start : Board) (input rest before after : Option (List ℕ))
+    (steps : ℕ) (event : Option BoardEvent) (new : Board) (c : Coverage) : Type 0 where
+  pub records : List RecordedStep
+  pub runs : BoardWithRecords limit start input rest before after steps event new records
+  pub covers : Covers (map (λ step. step.retired.retired) records) c

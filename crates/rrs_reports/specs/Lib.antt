@@ -2,5 +2,7 @@
 -- shown.
 pub mod Records
 pub mod CommitLogs
+pub mod BoardRecords
+pub mod BoardLogs
 pub mod Coverages
 pub mod ShownNames

@@ -11,10 +11,10 @@ use Rattle.rrs_exec.specs.Processes.{heap_of, RunsProcess}
 use Rattle.rrs_exec.specs.Watching.{Shown, start_in}
 
 -- a list to which what is shown is appended, and which wants all of it
-abbrev pub keeps : List Retired → Retired → List Retired → Type 0
+abbrev pub keeps : {R : Type 0} → List R → R → List R → Type 0
 keeps records r all = all ≡ records ++ r ∷ []
 
-abbrev pub wants_all : List Retired → Bool
+abbrev pub wants_all : {R : Type 0} → List R → Bool
 wants_all records = true
 
 -- A process is loaded and runs for so many steps, and these are the records of its run.

@@ -255,6 +255,14 @@ impl Calls {
         self.before = Before { pc, owner, kind };
     }
 
+    /// An exception or an interrupt comes after the step before: a call or a return that it makes is
+    /// taken as another jump.
+    pub fn interrupt(&mut self) {
+        if self.before.kind != Kind::Start {
+            self.before.kind = Kind::Other;
+        }
+    }
+
     /// Goes on from a step to an address.
     #[inline(never)]
     fn go_on(&mut self, code: &Code<'_>, before: Before, pc: u32, owner: u32) {

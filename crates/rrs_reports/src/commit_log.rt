@@ -1,8 +1,8 @@
 //! Spike's commit log.
 
-ghost use Rattle.std.specs.Prelude.{◌≡◌, ◌+◌, ◌≤◌, ◌++◌, length, codes, map, string_bytes, IfOk, OnErr};
+ghost use Rattle.std.specs.Prelude.{◌≡◌, ◌+◌, ◌≤◌, ◌++◌, [], length, codes, map, string_bytes, IfOk, OnErr};
 ghost use Rattle.rrs_lib.specs.Texts.{hexadecimal};
-ghost use Rattle.rrs_reports.specs.CommitLogs.{committed, written_text, store_digits, access_text, commit_text, TracesProcess};
+ghost use Rattle.rrs_reports.specs.CommitLogs.{committed, written_text, store_digits, mode_text, committed_text, access_text, commit_text, TracesProcess};
 
 use arrayvec::ArrayString;
 use itoa::Buffer;
@@ -14,9 +14,8 @@ use rrs_trace::{MemoryAccess, Retired, step_retired};
 use std::alloc::Global;
 use std::io::{Read, Write};
 
-/// The number of bytes of the longest line: 56 of its texts, 20 digits of a register's number, and
-/// 20 around them.
-const LINE_CAPACITY: usize = 96;
+/// The number of bytes of the longest line, that of a write of a CSR beside an access of memory.
+pub(crate) const LINE_CAPACITY: usize = 160;
 
 /// The word of `ecall`.
 pub(crate) const ECALL: u32 = 0x73;
@@ -41,7 +40,7 @@ pub fn committed_word(retired: &Retired) -> Option<u32>
 /// Appends a text and a word in hexadecimal. It is a part of its caller, where the text and the
 /// number of digits are known, so that both are copied by moves.
 #[inline(always)]
-fn push_word(line: &mut CommitLine, before: &str, least: usize, word: u32)
+pub(crate) fn push_word(line: &mut CommitLine, before: &str, least: usize, word: u32)
     requires least { least ≤ 8 }
     requires room { length line.old.bytes + length before.now + 8 ≤ LINE_CAPACITY }
     ensures bytes { line.new.bytes ≡ line.old.bytes ++ before.now ++ hexadecimal least word }
@@ -82,32 +81,52 @@ fn digits_of(mask: u8) -> usize
     }
 }
 
-/// Appends the load or the store, if there was one.
-fn push_access(line: &mut CommitLine, access: &MemoryAccess)
-    requires { length line.old.bytes + 26 ≤ LINE_CAPACITY }
-    ensures bytes { line.new.bytes ≡ line.old.bytes ++ access_text access.now }
-    ensures length { length line.new.bytes ≤ length line.old.bytes + 26 }
+/// The digit of a privilege mode.
+#[inline(always)]
+fn mode_digit(mode: u8) -> &'static str
+    ensures text { result.now ≡ mode_text mode }
+    ensures length { length result.now ≡ 1 }
 {
-    if access.rmask == 0 && access.wmask == 0 {
-        return;
-    }
-    push_word(line, " mem 0x", 8, access.addr);
-    if access.rmask == 0 {
-        push_word(line, " 0x", digits_of(access.wmask), access.wdata);
-    }
+    if mode == 3 { "3" } else { "0" }
 }
 
-/// The line of a record whose word was committed.
+/// Appends what begins the line of a record whose word was committed in a mode.
+#[inline(always)]
+pub(crate) fn push_committed(line: &mut CommitLine, mode: u8, word: u32, retired: &Retired)
+    requires { line.old.bytes ≡ [] }
+    ensures bytes { line.new.bytes ≡ committed_text mode word retired.now }
+    ensures length { length line.new.bytes ≤ 69 }
+{
+    line.push_str("core   0: ");
+    line.push_str(mode_digit(mode));
+    push_word(line, " 0x", 8, retired.pc_rdata);
+    push_word(line, " (0x", 8, word);
+    line.push_str(")");
+    push_written(line, retired.rd_addr, retired.rd_wdata);
+}
+
+/// Appends the load and the store, if there were some, and what ends the line.
+pub(crate) fn push_access(line: &mut CommitLine, access: &MemoryAccess)
+    requires { length line.old.bytes + 42 ≤ LINE_CAPACITY }
+    ensures { line.new.bytes ≡ line.old.bytes ++ access_text access.now }
+{
+    if access.rmask != 0 {
+        push_word(line, " mem 0x", 8, access.addr);
+    }
+    if access.wmask != 0 {
+        push_word(line, " mem 0x", 8, access.addr);
+        push_word(line, " 0x", digits_of(access.wmask), access.wdata);
+    }
+    line.push_str("\n");
+}
+
+/// The line of a record of a process whose word was committed.
 pub fn commit_line(word: u32, retired: &Retired) -> CommitLine
     ensures { result.bytes ≡ commit_text word retired.now }
 {
     let mut line = ArrayString::new();
-    push_word(&mut line, "core   0: 3 0x", 8, retired.pc_rdata);
-    push_word(&mut line, " (0x", 8, word);
-    line.push_str(")");
-    push_written(&mut line, retired.rd_addr, retired.rd_wdata);
+    push_committed(&mut line, 3, word, retired);
     push_access(&mut line, &retired.mem);
-    line.push_str("\n");
     line
 }
 
@@ -123,31 +142,56 @@ pub struct CommitLog<'a, W: Write> {
 }
 
 impl<'a, W: Write> CommitLog<'a, W> {
-    ghost use Rattle.rrs_reports.specs.CommitLogs.{Logs};
+    ghost use Rattle.std.specs.Prelude.{◌≡◌, ◌≢◌, ◌⊎◌, None, Some, true, false};
+    ghost use Rattle.std.specs.Bool.{OnTrue, OnFalse};
+    ghost use Rattle.std.specs.Io.KnownBytes.{Appends};
+    ghost use Rattle.rrs_reports.specs.CommitLogs.{Logs, entry_of, still_from};
+
+    /// Whether the lines of a step at an address are written.
+    #[inline(always)]
+    pub(crate) fn reaches(&mut self, pc: u32) -> bool
+        ensures log { self.new ≡ record self.old { from = still_from self.old.from pc } }
+        ensures writes { OnTrue result
+            ((self.new.from ≡ None) × (self.old.is_broken ≡ false)) }
+        ensures skips { OnFalse result
+            ((self.new.from ≢ None) ⊎ (self.old.is_broken ≡ true)) }
+    {
+        if self.from == Some(pc) {
+            self.from = None;
+        }
+        self.from.is_none() && !self.is_broken
+    }
+
+    /// Writes lines. Where that fails the log is broken.
+    pub(crate) fn write(&mut self, lines: &str)
+        ensures same_out { self.new.out.ghost_name ≡ self.old.out.ghost_name }
+        ensures from { self.new.from ≡ self.old.from }
+        ensures broken { self.old.is_broken ≡ true → self.new.is_broken ≡ true }
+        ensures written { self.new.is_broken ≡ false
+            → Appends (W.contents self.old.out.now) (W.contents self.new.out.now) lines.now }
+    {
+        if self.out.write_all(lines.as_bytes()).is_err() {
+            self.is_broken = true;
+        }
+    }
 
     /// Writes the line of what a step retired.
     fn see(&mut self, retired: &Retired)
-        ensures { Logs W.contents self.old retired.now self.new }
+        ensures { Logs W.contents self.old (entry_of retired.now) self.new }
     {
-        if self.from == Some(retired.pc_rdata) {
-            self.from = None;
-        }
-        if self.from.is_some() || self.is_broken {
+        if !self.reaches(retired.pc_rdata) {
             return;
         }
         if let Some(word) = committed_word(retired) {
-            let line = commit_line(word, retired);
-            if self.out.write_all(line.as_str().as_bytes()).is_err() {
-                self.is_broken = true;
-            }
+            self.write(commit_line(word, retired).as_str());
         }
     }
 }
 
 impl<'a, W: Write> Watcher for CommitLog<'a, W> {
-    ghost use Rattle.rrs_reports.specs.CommitLogs.{Logs, wants_lines};
+    ghost use Rattle.rrs_reports.specs.CommitLogs.{Logs, entry_of, wants_lines};
 
-    ghost sees = { Logs W.contents };
+    ghost sees = { λ old retired new. Logs W.contents old (entry_of retired) new };
 
     ghost wants = { wants_lines };
 

@@ -4,10 +4,13 @@
 //! [Code] is the code of an executable, with its functions and the names of its addresses.
 //! [trace_process] makes a run and writes a line for each instruction, which
 //! `specs/CommitLogs.antt` defines. [cover_process] makes a run and counts its steps, as
-//! `specs/Coverages.antt` says.
+//! `specs/Coverages.antt` says. [trace_board] and [cover_board] do so of a board at a terminal, whose
+//! log `specs/BoardLogs.antt` defines.
 
 #![tactic(auto)]
 
+mod board_log;
+mod board_profile;
 mod callgrind;
 mod calls;
 mod code;
@@ -21,6 +24,8 @@ mod profile;
 mod sections;
 mod summary;
 
+pub use board_log::{BoardTraceError, trace_board};
+pub use board_profile::{BoardCoverError, cover_board};
 pub use callgrind::write_callgrind;
 pub use calls::{Call, Calls};
 pub use code::Code;

@@ -93,7 +93,7 @@ fn word_left(memory: &mut KeptMemory, pc: u32, next: u32) -> u32
 impl Profile<'_, '_> {
     /// Counts the step of this number, which was made at an address where this word is.
     #[inline(always)]
-    fn count(&mut self, number: u64, pc: u32, word: u32)
+    pub(crate) fn count(&mut self, number: u64, pc: u32, word: u32)
         ensures { (r : Retired) → r.pc_rdata ≡ pc → is_step r ≡ true
             → Counts self.old.coverage r self.new.coverage }
     {

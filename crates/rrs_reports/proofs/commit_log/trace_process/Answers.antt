@@ -1,10 +1,10 @@
 -- The records that the log was shown are those of the run.
-use Rattle.std.proofs.Common.{◌≡◌, Bool, false, true, if◌then◌else◌, refl, ap, subst, sym, rules}
+use Rattle.std.proofs.Common.{◌≡◌, Bool, false, true, if◌then◌else◌, map, refl, ap, subst, sym, rules}
 use Rattle.std.specs.Io.KnownBytes.{Appends}
 use Rattle.rrs_reports.specs.declared.commit_log.CommitLog.{CommitLog}
-use Rattle.rrs_reports.specs.CommitLogs.{wants_lines, log_text}
+use Rattle.rrs_reports.specs.CommitLogs.{wants_lines, entry_of, log_text}
 use Rattle.rrs_reports.proofs.Records.{run_kept}
-use Rattle.rrs_reports.proofs.Logging.{Held, held_more, logged_none}
+use Rattle.rrs_reports.proofs.Logging.{Held, held_of, logged_none}
 use Rattle.rrs_reports.proofs.commit_log.trace_process.Goals as goal
 
 pub returns-else-is_broken : goal.returns-else-is_broken
@@ -19,8 +19,8 @@ returns-else-is_broken g c =
       is_broken = false;
     } in
     let whole : new.is_broken ≡ false = c.if-is_broken.false in
-    let k = run_kept _ _ _ _ wants_lines (Held contents from before start)
-    (λ rs r v w held logs. held_more contents from before start rs r v w held logs)
+    let k = run_kept _ _ _ _ wants_lines (λ rs v. Held contents from before start (map entry_of rs) v)
+    (λ rs r v w held logs. held_of contents from before start entry_of rs r v w held logs)
     _ _ _ _ _ _ _ _ _ _ _ c.in-Ok.ensures.watched (ap (λ (b : Bool). if b then false else true) whole)
     (record { same_out = refl; whole = logged_none contents from _ refl }) in
     let name = k.2.same_out in
@@ -29,6 +29,6 @@ returns-else-is_broken g c =
       traced = record {
         records = k.0;
         runs = k.1;
-        written = subst (λ w. Appends before (contents w) (log_text from k.0)) (sym same) (k.2.whole whole).written;
+        written = subst (λ w. Appends before (contents w) (log_text from (map entry_of k.0))) (sym same) (k.2.whole whole).written;
       };
     }

@@ -1,0 +1,98 @@
+//! What a run of a board covered of its code.
+
+ghost use Rattle.std.specs.Prelude.{IfOk};
+ghost use Rattle.rrs_reports.specs.Coverages.{CoversBoard};
+
+use crate::code::Code;
+use crate::commit_log::committed_word;
+use crate::profile::Profile;
+use rrs_board::{
+    Board, BoardEnd, BoardWatcher, RecordedStep, TerminalError, WatchedRuns, run_at_terminal,
+};
+use rrs_trace::Retired;
+use std::alloc::Global;
+use std::io::{Read, Write};
+
+/// The word of a step that was committed at an address, where the program went on elsewhere than
+/// behind it, and else 0.
+fn word_left(retired: &Retired, word: u32) -> u32 {
+    if retired.pc_wdata == retired.pc_rdata.wrapping_add(4) {
+        0
+    } else {
+        word
+    }
+}
+
+impl BoardWatcher for Profile<'_, '_> {
+    ghost use Rattle.std.specs.Prelude.{true};
+    ghost use Rattle.rrs_reports.specs.Coverages.{Counts};
+
+    ghost sees = { λ old step new. Counts old.coverage step.retired.retired new.coverage };
+
+    ghost wants = { λ profile. true };
+
+    fn see_step(&mut self, step: &RecordedStep) {
+        let retired = &step.retired.retired;
+        match committed_word(retired) {
+            Some(word) => {
+                let word = word_left(retired, word);
+                self.count(retired.order, retired.pc_rdata, word);
+            }
+            None => {}
+        }
+        if step.retired.cause.is_some() {
+            self.calls.interrupt();
+        }
+    }
+
+    fn wants_more(&self) -> bool {
+        true
+    }
+}
+
+/// Why it is not known what a run of a board covered.
+#[derive(Debug, PartialEq, Clone, Copy)]
+pub enum BoardCoverError {
+    /// There is no memory for the counts. No step is made then.
+    OutOfMemory,
+    /// The board was stopped at its terminal.
+    Terminal(TerminalError),
+}
+
+/// Runs a board as [run_at_terminal](rrs_board::run_at_terminal) does, and gives what the run
+/// covered of its code. A count is the number of steps whose pc a word has: of instructions that
+/// retire, and of calls by `ecall`.
+///
+/// # Errors
+///
+/// Those of `run_at_terminal`, and out of memory for the counts.
+pub fn cover_board<'a, 'b, R: Read, W: Write>(
+    alloc: Global,
+    board: &mut Board,
+    code: &'b Code<'a>,
+    limit: u64,
+    is_polled: bool,
+    input: &mut R,
+    output: &mut W,
+) -> Result<(BoardEnd, Profile<'a, 'b>), BoardCoverError>
+    ensures covered { IfOk result (λ run. CoversBoard limit board.old
+        (R.remaining input.old) (R.remaining input.new)
+        (W.contents output.old) (W.contents output.new) run.0.steps run.0.event board.new
+        run.1.coverage) }
+{
+    let Ok(profile) = Profile::new(alloc, code) else {
+        return Err(BoardCoverError::OutOfMemory);
+    };
+    let mut runs = WatchedRuns {
+        watcher: profile,
+        is_first: false,
+    };
+    match run_at_terminal(&mut runs, board, limit, is_polled, input, output) {
+        Ok(end) => {
+            let mut profile = runs.watcher;
+            profile.calls.finish(end.steps);
+            Ok((end, profile))
+        }
+        Err(error) => Err(BoardCoverError::Terminal(error)),
+    }
+}
