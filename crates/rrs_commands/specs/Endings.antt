@@ -9,7 +9,7 @@ use Rattle.rrs_fast.specs.declared.serving.Ending.{Ending}
 use Rattle.rrs_fast.specs.declared.serving.Ending.TheVariants.{Limit, Fault, Exit}
 use Rattle.rrs_cli.specs.Failures as Failures
 use Rattle.rrs_run_commands.specs.declared.options.Task.{Task}
-use Rattle.rrs_run_commands.specs.declared.options.Task.TheVariants.{Execute, Trace, Cover, Board}
+use Rattle.rrs_run_commands.specs.declared.options.Task.TheVariants.{Execute, Trace, Cover, Board, TraceBoard, CoverBoard}
 use Rattle.rrs_run_commands.specs.declared.refusal.FileFault.TheVariants.{Host}
 use Rattle.rrs_run_commands.specs.declared.refusal.HostFault.TheVariants.{Closed}
 use Rattle.rrs_run_commands.specs.declared.refusal.Refusal.{Refusal}
@@ -31,6 +31,8 @@ refused_status Execute refusal = 125
 refused_status Trace refusal = 125
 refused_status Cover refusal = 125
 refused_status Board refusal = 125
+refused_status TraceBoard refusal = 125
+refused_status CoverBoard refusal = 125
 refused_status task (Words mistake) = 2
 refused_status task Terminal = 2
 refused_status task (Failed failure) = Failures.status_of failure

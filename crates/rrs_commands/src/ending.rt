@@ -39,7 +39,8 @@ fn refused_status(task: Task, refusal: &Refusal<'_>) -> u8
 {
     match (task, refusal) {
         (_, Refusal::File(_, FileFault::Host(HostFault::Closed))) => 141,
-        (Task::Execute | Task::Trace | Task::Cover | Task::Board, _) => 125,
+        (Task::Execute | Task::Trace | Task::Cover, _) => 125,
+        (Task::Board | Task::TraceBoard | Task::CoverBoard, _) => 125,
         (_, Refusal::Words(_) | Refusal::Terminal) => 2,
         (_, Refusal::Failed(failure)) => failure.status(),
         (_, _) => 1,

@@ -34,11 +34,31 @@ pub static SUBCOMMANDS: [Subcommand; 9] = [
 /// The program itself, where it is asked for help or for no subcommand.
 pub static ITSELF: Subcommand = HELP;
 
-/// `rrs gdb --board`, which has options of its own.
-pub static DEBUG_BOARD: Subcommand = Subcommand {
+/// `rrs gdb --board`, `rrs trace --board` and `rrs cover --board`, which have options of their own.
+static DEBUG_BOARD: Subcommand = Subcommand {
     task: Task::DebugBoard,
     ..DEBUG
 };
+
+static TRACE_BOARD: Subcommand = Subcommand {
+    task: Task::TraceBoard,
+    ..TRACE
+};
+
+static COVER_BOARD: Subcommand = Subcommand {
+    task: Task::CoverBoard,
+    ..COVER
+};
+
+/// What a subcommand is with `--board` after its word, or `None` where it does not take that.
+pub fn on_board(subcommand: &Subcommand) -> Option<&'static Subcommand> {
+    match subcommand.task {
+        Task::Debug | Task::DebugBoard => Some(&DEBUG_BOARD),
+        Task::Trace | Task::TraceBoard => Some(&TRACE_BOARD),
+        Task::Cover | Task::CoverBoard => Some(&COVER_BOARD),
+        _ => None,
+    }
+}
 
 /// `rrs run`.
 const RUN: Subcommand = Subcommand {
@@ -95,7 +115,10 @@ const TRACE: Subcommand = Subcommand {
     command: Command {
         name: "rrs trace",
         usage: "rrs trace [--limit STEPS] [--memory BYTES] [--clock fixed] [--from ADDRESS|SYMBOL]
-    [--output FILE] PROGRAM [ARGUMENT] ..",
+    [--output FILE] PROGRAM [ARGUMENT] ..
+       rrs trace --board [--limit STEPS] [--memory BYTES] [--input polled] [--raw]
+           [--dtb FILE] [--append TEXT] [--symbols FILE] [--from ADDRESS|SYMBOL]
+           [--output FILE] PROGRAM",
     },
     summary: "runs a program as rrs exec does, and writes Spike's commit log",
     help: "Runs PROGRAM as rrs exec does, and writes a line for each step, as Spike's
@@ -106,7 +129,12 @@ they begin at the first step at an ADDRESS, which is decimal digits, or 0x and
 hexadecimal ones, or else the name of a SYMBOL. A misaligned load or store, and an
 instruction of extension A, are faults here.
 
-Status: as that of rrs exec.
+With --board PROGRAM is firmware, which runs as rrs board does, and the lines are those
+of spike -l --log-commits: with the privilege mode, the CSR that an instruction wrote,
+and the exceptions and interrupts. A SYMBOL is then of the executable FILE, where
+--symbols names one.
+
+Status: as that of rrs exec, or of rrs board.
 ",
 };
 
@@ -117,7 +145,10 @@ const COVER: Subcommand = Subcommand {
     command: Command {
         name: "rrs cover",
         usage: "rrs cover [--limit STEPS] [--memory BYTES] [--clock fixed] [--annotate]
-    [--callgrind FILE] [--output FILE] PROGRAM [ARGUMENT] ..",
+    [--callgrind FILE] [--output FILE] PROGRAM [ARGUMENT] ..
+       rrs cover --board [--limit STEPS] [--memory BYTES] [--input polled] [--raw]
+           [--dtb FILE] [--append TEXT] [--symbols FILE] [--annotate] [--callgrind FILE]
+           [--output FILE] PROGRAM",
     },
     summary: "runs a program as rrs exec does, and says what the run covered",
     help: "Runs PROGRAM as rrs exec does, and writes what the run covered: of each function how
@@ -128,7 +159,11 @@ FILE (--output), and with --callgrind the counts by function and by call go to a
 in Callgrind's profile format, which callgrind_annotate and KCachegrind read. A
 misaligned load or store, and an instruction of extension A, are faults here.
 
-Status: as that of rrs exec.
+With --board PROGRAM is firmware, which runs as rrs board does, and the functions are
+those of the executable FILE, where --symbols names one, as vmlinux is of a kernel's
+image.
+
+Status: as that of rrs exec, or of rrs board.
 ",
 };
 

@@ -1,7 +1,7 @@
--- The commit log of a board, as Spike writes it where it is called with -l --log-commits, but for the
--- lines of -l: beside what the log of a process has, the privilege mode of each instruction, the CSR
--- that it wrote, and exceptions and interrupts. An instruction that raises an exception has no line
--- of its own.
+-- The commit log of a board, as Spike writes it where it is called with -l --log-commits, but for
+-- the texts of instructions: beside what the log of a process has, the privilege mode of each
+-- instruction, the CSR that it wrote, and exceptions and interrupts. An instruction that raises an
+-- exception has no line of its own.
 use Rattle.std.specs.Prelude.{◌≡◌, ℕ, ◌==◌, if◌then◌else◌, Bool, true, false, List, [], ◌∷◌, ◌++◌, map, codes, Option, Some, None}
 use Rattle.std.specs.Fmt.{decimal}
 use Rattle.std.specs.Io.KnownBytes.{Appends}
@@ -24,7 +24,7 @@ use Rattle.rrs_reports.specs.BoardRecords.{BoardWithRecords}
 
 -- ---- an instruction that retired
 
--- the number and the name of the CSR that was written, and the value of the bits that a write changes
+-- the CSR that was written: its number, its name, and the value of the bits that a write changes
 abbrev pub csr_text : CsrAccess → List ℕ
 csr_text a =
     if a.wmask == 0 then []

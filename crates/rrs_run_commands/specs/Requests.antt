@@ -13,6 +13,10 @@
 --   rrs elf FILE
 --   rrs board [--limit STEPS] [--memory BYTES] [--input polled] [--raw] [--dtb FILE]
 --       [--append TEXT] PROGRAM
+--   rrs trace --board [--limit STEPS] [--memory BYTES] [--input polled] [--raw] [--dtb FILE]
+--       [--append TEXT] [--symbols FILE] [--from ADDRESS|SYMBOL] [--output FILE] PROGRAM
+--   rrs cover --board [--limit STEPS] [--memory BYTES] [--input polled] [--raw] [--dtb FILE]
+--       [--append TEXT] [--symbols FILE] [--annotate] [--callgrind FILE] [--output FILE] PROGRAM
 --   rrs gdb [--memory BYTES] [--input FILE] [--raw] PROGRAM [ARGUMENT] ..
 --   rrs gdb --board [--limit STEPS] [--memory BYTES] [--input FILE] [--raw] [--dtb FILE]
 --       [--append TEXT] PROGRAM
@@ -24,11 +28,11 @@ use Rattle.rrs_cli.specs.Limits.{limit_in}
 use Rattle.rrs_run_commands.specs.Words.{IsNumber, IsSize, IsAddress, IsDashed, HasValue, ends_options, name_in, value_in}
 use Rattle.rrs_run_commands.specs.Options.{has_setting, has_switch, most_memory, setting_word, switch_word, usual_limit}
 use Rattle.rrs_run_commands.specs.declared.options.Task.{Task}
-use Rattle.rrs_run_commands.specs.declared.options.Task.TheVariants.{Run, Execute, Trace, Cover, Debug, Board}
+use Rattle.rrs_run_commands.specs.declared.options.Task.TheVariants.{Run, Execute, Trace, Cover, Debug, DebugBoard}
 use Rattle.rrs_run_commands.specs.declared.options.Switch.{Switch}
 use Rattle.rrs_run_commands.specs.declared.options.Switch.TheVariants.{Quiet, Raw, Strict, Annotate, Gnu, Listed, Rars, Anywhere}
 use Rattle.rrs_run_commands.specs.declared.options.Setting.{Setting}
-use Rattle.rrs_run_commands.specs.declared.options.Setting.TheVariants.{Limit, Memory, From, Output, Callgrind, Input, Clock, Files, ReadFiles, Tree, Append, Text, Data, Executable}
+use Rattle.rrs_run_commands.specs.declared.options.Setting.TheVariants.{Limit, Memory, From, Output, Callgrind, Input, Clock, Files, ReadFiles, Tree, Append, Symbols, Text, Data, Executable}
 use Rattle.rrs_run_commands.specs.declared.refusal.Mistake.{Mistake}
 use Rattle.rrs_run_commands.specs.declared.refusal.Mistake.TheVariants as Mistake
 use Rattle.rrs_run_commands.specs.declared.requests.Form.{Form}
@@ -59,6 +63,7 @@ pub record Wanted : Type 0 where
   pub read_only : Bool
   pub tree : Option (List ℕ)
   pub append : Option (List ℕ)
+  pub symbols : Option (List ℕ)
   pub file : Option (List ℕ)
   pub steps : Option ℕ
   pub program : List (List ℕ)
@@ -86,6 +91,7 @@ unasked task = record {
   read_only = false;
   tree = None;
   append = None;
+  symbols = None;
   file = None;
   steps = None;
   program = [];
@@ -113,6 +119,7 @@ wanted_of request = record {
   read_only = request.is_read_only;
   tree = option_map (λ path. path.now) request.tree;
   append = option_map (λ text. text.now) request.append;
+  symbols = option_map (λ path. path.now) request.symbols;
   file = option_map (λ path. path.now) request.file;
   steps = request.steps;
   program = map string_bytes request.words.now;
@@ -165,15 +172,17 @@ Sets task Memory value old new =
 Sets task From value old new = new ≡ record old { from = Some value }
 Sets task Output value old new = new ≡ record old { output = Some value }
 Sets task Callgrind value old new = new ≡ record old { callgrind = Some value }
-Sets Board Input value old new =
+Sets Debug Input value old new = new ≡ record old { input = Some value }
+Sets DebugBoard Input value old new = new ≡ record old { input = Some value }
+Sets task Input value old new =
     (value ≡ codes "polled") × (new ≡ record old { polled = true })
-Sets task Input value old new = new ≡ record old { input = Some value }
 Sets task Clock value old new =
     (value ≡ codes "fixed") × (new ≡ record old { clock_fixed = true })
 Sets task Files value old new = new ≡ record old { folder = Some value; read_only = false }
 Sets task ReadFiles value old new = new ≡ record old { folder = Some value; read_only = true }
 Sets task Tree value old new = new ≡ record old { tree = Some value }
 Sets task Append value old new = new ≡ record old { append = Some value }
+Sets task Symbols value old new = new ≡ record old { symbols = Some value }
 Sets task Text value old new =
     (address : ℕ) × IsAddress value address × (new ≡ record old { text_start = Some address })
 Sets task Data value old new =
@@ -191,13 +200,15 @@ RefusesValue task Memory value fault =
 RefusesValue task From value fault = ⊥
 RefusesValue task Output value fault = ⊥
 RefusesValue task Callgrind value fault = ⊥
-RefusesValue Board Input value fault = (value ≡ codes "polled" → ⊥) × (fault ≡ Wrong Input value)
-RefusesValue task Input value fault = ⊥
+RefusesValue Debug Input value fault = ⊥
+RefusesValue DebugBoard Input value fault = ⊥
+RefusesValue task Input value fault = (value ≡ codes "polled" → ⊥) × (fault ≡ Wrong Input value)
 RefusesValue task Clock value fault = (value ≡ codes "fixed" → ⊥) × (fault ≡ Wrong Clock value)
 RefusesValue task Files value fault = ⊥
 RefusesValue task ReadFiles value fault = ⊥
 RefusesValue task Tree value fault = ⊥
 RefusesValue task Append value fault = ⊥
+RefusesValue task Symbols value fault = ⊥
 RefusesValue task Text value fault =
     ((address : ℕ) → IsAddress value address → ⊥) × (fault ≡ Wrong Text value)
 RefusesValue task Data value fault =

@@ -1,14 +1,19 @@
-//! `rrs cover`: what a run covered.
+//! `rrs cover`: what a run of a program, or of a board, covered.
 
+use crate::boards::{board_with, ending_of, stopped};
 use crate::disassembling::{code_of, flushed};
 use crate::executables::{memory_for, tell};
 use crate::files::{Noting, STANDARD_ERROR, buffered, created, read_program};
-use crate::refusal::{Refusal, named, no_image};
+use crate::refusal::{Refusal, named, no_image, out_of_memory};
 use crate::requests::Request;
+use rrs_board::Board;
 use rrs_exec::Progress;
 use rrs_fast::Ending;
 use rrs_linux::Linux;
-use rrs_reports::{Code, Profile, cover_process, write_annotated, write_callgrind, write_summary};
+use rrs_reports::{
+    BoardCoverError, Code, Profile, cover_board, cover_process, write_annotated, write_callgrind,
+    write_summary,
+};
 use std::alloc::Global;
 use std::io::{Read, Write};
 use std::rt::Files;
@@ -119,5 +124,69 @@ fn cover_code<'a, H: Files + Eprint + AllocGlobal, R: Read, W: Write, E: Write, 
             Ok(end.ending)
         }
         Err(error) => Err(no_image(request.path(), file, error)),
+    }
+}
+
+/// Runs firmware as a request says, and writes what the run covered of the code of the executable
+/// that it names for that, or else of the firmware: as `cover` does.
+///
+/// # Errors
+///
+/// Those of `run_board`, and those of `cover` on the code and on what is written.
+pub fn cover_firmware<'a, H: Files + Eprint + AllocGlobal, R: Read, W: Write, E: Write>(
+    rt: &H,
+    request: Request<'a>,
+    input: &mut R,
+    output: &mut W,
+    errors: &mut E,
+) -> Result<Ending, Refusal<'a>> {
+    let file = read_program(rt, request.path())?;
+    let board = board_with(rt, request, &file)?;
+    match request.symbols {
+        Some(path) => {
+            let names = read_program(rt, path)?;
+            let code = code_of(rt.alloc(), path, &names)?;
+            cover_loaded(rt, board, request, &code, input, output, errors)
+        }
+        None => {
+            let code = code_of(rt.alloc(), request.path(), &file)?;
+            cover_loaded(rt, board, request, &code, input, output, errors)
+        }
+    }
+}
+
+/// Runs a board that is loaded, and writes what the run covered of this code.
+fn cover_loaded<'a, H: Files + Eprint + AllocGlobal, R: Read, W: Write, E: Write>(
+    rt: &H,
+    mut board: Board,
+    request: Request<'a>,
+    code: &Code<'_>,
+    input: &mut R,
+    output: &mut W,
+    errors: &mut E,
+) -> Result<Ending, Refusal<'a>> {
+    let report = created(rt, request.output)?;
+    let callgrind = created(rt, request.callgrind)?;
+    let (mut input, mut output) = (Noting::new(input), Noting::new(output));
+    let run = {
+        let mut out = buffered(rt.alloc(), &mut output)?;
+        let (limit, is_polled) = (request.limit, request.is_polled);
+        cover_board(
+            rt.alloc(),
+            &mut board,
+            code,
+            limit,
+            is_polled,
+            &mut input,
+            &mut out,
+        )
+    };
+    match run {
+        Ok((end, profile)) => {
+            write_reports(rt.alloc(), request, &profile, report, callgrind, errors)?;
+            Ok(ending_of(rt, "rrs cover", &board, end))
+        }
+        Err(BoardCoverError::OutOfMemory) => Err(out_of_memory()),
+        Err(BoardCoverError::Terminal(error)) => Err(stopped(error, input.fault, output.fault)),
     }
 }

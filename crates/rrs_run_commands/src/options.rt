@@ -1,7 +1,7 @@
 //! The options of the subcommands of `rrs`.
 
 ghost use Rattle.std.specs.Prelude.{◌≡◌, true, MatchOption};
-ghost use Rattle.rrs_run_commands.specs.Options.{has_setting, has_switch, most_memory, setting_word, switch_word, usual_limit, usual_memory};
+ghost use Rattle.rrs_run_commands.specs.Options.{has_setting, has_switch, is_on_board, is_watched, most_memory, setting_word, switch_word, usual_limit, usual_memory};
 
 /// What a subcommand does.
 #[derive(Clone, Copy, PartialEq)]
@@ -26,6 +26,10 @@ pub enum Task {
     Debug,
     /// It runs firmware on a board under gdb.
     DebugBoard,
+    /// It runs firmware on a board, and writes the log of the run.
+    TraceBoard,
+    /// It runs firmware on a board, and writes what the run covered.
+    CoverBoard,
     /// It says what the others do.
     Help,
 }
@@ -76,6 +80,8 @@ pub enum Setting {
     Tree,
     /// `--append`, with a text.
     Append,
+    /// `--symbols`, with a path.
+    Symbols,
     /// `-Ttext`, with an address.
     Text,
     /// `-Tdata`, with an address.
@@ -85,7 +91,7 @@ pub enum Setting {
 }
 
 /// The words of all options.
-pub static WORDS: [&str; 22] = [
+pub static WORDS: [&str; 23] = [
     "--quiet",
     "--raw",
     "--strict-alignment",
@@ -105,6 +111,7 @@ pub static WORDS: [&str; 22] = [
     "--files-read-only",
     "--dtb",
     "--append",
+    "--symbols",
     "-Ttext",
     "-Tdata",
     "-o",
@@ -145,6 +152,7 @@ fn setting_named(name: &str) -> Option<Setting>
         "--files-read-only" => Some(Setting::ReadFiles),
         "--dtb" => Some(Setting::Tree),
         "--append" => Some(Setting::Append),
+        "--symbols" => Some(Setting::Symbols),
         "-Ttext" => Some(Setting::Text),
         "-Tdata" => Some(Setting::Data),
         "-o" => Some(Setting::Executable),
@@ -160,14 +168,39 @@ fn has_switch(task: Task, switch: Switch) -> bool
         Switch::Quiet => matches!(task, Task::Run),
         Switch::Raw => matches!(
             task,
-            Task::Execute | Task::Debug | Task::Board | Task::DebugBoard
+            Task::Execute
+                | Task::Debug
+                | Task::Board
+                | Task::DebugBoard
+                | Task::TraceBoard
+                | Task::CoverBoard
         ),
         Switch::Strict => matches!(task, Task::Execute),
-        Switch::Annotate => matches!(task, Task::Cover),
+        Switch::Annotate => matches!(task, Task::Cover | Task::CoverBoard),
         Switch::Gnu | Switch::Listed | Switch::Rars | Switch::Anywhere => {
             matches!(task, Task::Assemble)
         }
     }
+}
+
+/// Whether a subcommand runs firmware on a board.
+pub fn is_on_board(task: Task) -> bool
+    ensures { result ≡ is_on_board task }
+{
+    matches!(
+        task,
+        Task::Board | Task::DebugBoard | Task::TraceBoard | Task::CoverBoard
+    )
+}
+
+/// Whether a subcommand reports on each step of a run.
+fn is_watched(task: Task) -> bool
+    ensures { result ≡ is_watched task }
+{
+    matches!(
+        task,
+        Task::Trace | Task::Cover | Task::TraceBoard | Task::CoverBoard
+    )
 }
 
 /// Whether a subcommand has an option with a value.
@@ -175,21 +208,18 @@ fn has_setting(task: Task, setting: Setting) -> bool
     ensures { result ≡ has_setting task setting }
 {
     match setting {
-        Setting::Limit => matches!(
-            task,
-            Task::Execute | Task::Trace | Task::Cover | Task::Board | Task::DebugBoard
-        ),
-        Setting::Memory => matches!(
-            task,
-            Task::Execute | Task::Trace | Task::Cover | Task::Board | Task::Debug | Task::DebugBoard
-        ),
+        Setting::Limit => matches!(task, Task::Execute) || is_on_board(task) || is_watched(task),
+        Setting::Memory => {
+            matches!(task, Task::Execute | Task::Debug) || is_on_board(task) || is_watched(task)
+        }
         Setting::Clock => matches!(task, Task::Execute | Task::Trace | Task::Cover),
-        Setting::From => matches!(task, Task::Trace),
-        Setting::Output => matches!(task, Task::Trace | Task::Cover),
-        Setting::Callgrind => matches!(task, Task::Cover),
-        Setting::Input => matches!(task, Task::Board | Task::Debug | Task::DebugBoard),
+        Setting::From => matches!(task, Task::Trace | Task::TraceBoard),
+        Setting::Output => is_watched(task),
+        Setting::Callgrind => matches!(task, Task::Cover | Task::CoverBoard),
+        Setting::Input => matches!(task, Task::Debug) || is_on_board(task),
         Setting::Files | Setting::ReadFiles => matches!(task, Task::Execute),
-        Setting::Tree | Setting::Append => matches!(task, Task::Board | Task::DebugBoard),
+        Setting::Tree | Setting::Append => is_on_board(task),
+        Setting::Symbols => matches!(task, Task::TraceBoard | Task::CoverBoard),
         Setting::Text | Setting::Data | Setting::Executable => matches!(task, Task::Assemble),
     }
 }
@@ -224,10 +254,7 @@ pub fn setting_of(task: Task, name: &str) -> Option<Setting>
 pub fn usual_memory(task: Task) -> u64
     ensures { result ≡ usual_memory task }
 {
-    match task {
-        Task::Board | Task::DebugBoard => 1 << 27,
-        _ => 1 << 28,
-    }
+    if is_on_board(task) { 1 << 27 } else { 1 << 28 }
 }
 
 /// The most bytes of memory that a process has without a word for it: 1 GiB.
@@ -237,10 +264,7 @@ pub const MOST_UNASKED: u64 = 1 << 30;
 pub fn most_memory(task: Task) -> u64
     ensures { result ≡ most_memory task }
 {
-    match task {
-        Task::Board | Task::DebugBoard => 1 << 31,
-        _ => 1 << 32,
-    }
+    if is_on_board(task) { 1 << 31 } else { 1 << 32 }
 }
 
 /// The most steps that are made where no word says it: 10^9 at a `continue` on a board, and any

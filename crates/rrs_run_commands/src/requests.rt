@@ -70,6 +70,8 @@ pub struct Request<'a> {
     pub tree: Option<&'a str>,
     /// The arguments for the kernel in the board's own device tree: `--append`.
     pub append: Option<&'a str>,
+    /// The path of the executable whose symbols name the functions of firmware: `--symbols`.
+    pub symbols: Option<&'a str>,
     /// The path of the file, or of the program.
     pub file: Option<&'a str>,
     /// The most steps that `rrs run` makes.
@@ -110,6 +112,7 @@ fn unasked<'a>(task: Task) -> Request<'a>
         is_read_only: false,
         tree: None,
         append: None,
+        symbols: None,
         file: None,
         steps: None,
         words: &[],
@@ -305,9 +308,9 @@ fn set<'a>(
         Setting::Output | Setting::Executable => request.output = Some(value),
         Setting::Callgrind => request.callgrind = Some(value),
         Setting::Input => match task {
-            Task::Board if value == "polled" => request.is_polled = true,
-            Task::Board => return Err(Mistake::Wrong(setting, value)),
-            _ => request.input = Some(value),
+            Task::Debug | Task::DebugBoard => request.input = Some(value),
+            _ if value == "polled" => request.is_polled = true,
+            _ => return Err(Mistake::Wrong(setting, value)),
         },
         Setting::Clock if value == "fixed" => request.has_fixed_clock = true,
         Setting::Clock => return Err(Mistake::Wrong(setting, value)),
@@ -321,6 +324,7 @@ fn set<'a>(
         }
         Setting::Tree => request.tree = Some(value),
         Setting::Append => request.append = Some(value),
+        Setting::Symbols => request.symbols = Some(value),
         Setting::Text => match address_of(value) {
             Some(address) => request.text_start = Some(address),
             None => return Err(Mistake::Wrong(setting, value)),

@@ -1,15 +1,17 @@
-//! `rrs trace`: the commit log of a run, as Spike writes it.
+//! `rrs trace`: the commit log of a run of a program, or of a board, as Spike writes it.
 
+use crate::boards::{board_with, ending_of, stopped};
 use crate::executables::{memory_for, tell};
 use crate::files::{Noting, STANDARD_ERROR, buffered, created, read_program, unwritten};
 use crate::refusal::{Refusal, named, no_executable, no_image};
 use crate::requests::Request;
 use crate::words::number_of;
+use rrs_board::Board;
 use rrs_elf::{Executable, Symbols};
 use rrs_exec::Progress;
 use rrs_fast::Ending;
 use rrs_linux::Linux;
-use rrs_reports::{TraceError, trace_process};
+use rrs_reports::{BoardTraceError, TraceError, trace_board, trace_process};
 use std::io::{Read, Write};
 use std::rt::Files;
 
@@ -28,13 +30,17 @@ fn value_of(symbols: &Symbols<'_>, name: &[u8]) -> Option<u32> {
 }
 
 /// The address from which on lines are written, if a word asks for one: a number, or the name of a
-/// symbol.
+/// symbol of the file of a path.
 ///
 /// # Errors
 ///
 /// `Refusal::NoAddress` where the word is no address, and no symbol has this name; `Refusal::File`
 /// where the file is no executable, or has a symbol table that can't be read.
-fn start_of<'a>(file: &[u8], request: Request<'a>) -> Result<Option<u32>, Refusal<'a>> {
+fn start_of<'a>(
+    path: &'a str,
+    file: &[u8],
+    request: Request<'a>,
+) -> Result<Option<u32>, Refusal<'a>> {
     let Some(word) = request.from else {
         return Ok(None);
     };
@@ -46,12 +52,12 @@ fn start_of<'a>(file: &[u8], request: Request<'a>) -> Result<Option<u32>, Refusa
     }
     let program = match Executable::parse(file) {
         Ok(program) => program,
-        Err(error) => return Err(no_executable(request.path(), file, error)),
+        Err(error) => return Err(no_executable(path, file, error)),
     };
     let symbols = match program.symbols() {
         Ok(Some(symbols)) => symbols,
         Ok(None) => return Err(Refusal::NoAddress(word)),
-        Err(error) => return Err(no_executable(request.path(), file, error)),
+        Err(error) => return Err(no_executable(path, file, error)),
     };
     match value_of(&symbols, word.as_bytes()) {
         Some(address) => Ok(Some(address)),
@@ -111,7 +117,7 @@ pub fn trace<'a, H: Files + Eprint + AllocGlobal, R: Read, W: Write, E: Write, P
     progress: &mut P,
 ) -> Result<Ending, Refusal<'a>> {
     let file = read_program(rt, request.path())?;
-    let from = start_of(&file, request)?;
+    let from = start_of(request.path(), &file, request)?;
     match created(rt, request.output)? {
         Some(mut log) => {
             let ended = trace_to(rt, &file, request, from, environment, &mut log, progress);
@@ -120,6 +126,68 @@ pub fn trace<'a, H: Files + Eprint + AllocGlobal, R: Read, W: Write, E: Write, P
         None => {
             let mut log = Noting::new(errors);
             let ended = trace_to(rt, &file, request, from, environment, &mut log, progress);
+            named(ended, STANDARD_ERROR, log.fault)
+        }
+    }
+}
+
+/// Runs a board that is loaded, and writes the log of the run.
+fn trace_loaded<'a, H: Eprint + AllocGlobal, R: Read, W: Write, O: Write>(
+    rt: &H,
+    mut board: Board,
+    request: Request<'a>,
+    from: Option<u32>,
+    input: &mut R,
+    output: &mut W,
+    log: &mut O,
+) -> Result<Ending, Refusal<'a>> {
+    let (mut input, mut output) = (Noting::new(input), Noting::new(output));
+    let mut log = buffered(rt.alloc(), log)?;
+    let run = {
+        let mut out = buffered(rt.alloc(), &mut output)?;
+        let (limit, is_polled) = (request.limit, request.is_polled);
+        trace_board(
+            &mut board, limit, is_polled, &mut input, &mut out, from, &mut log,
+        )
+    };
+    let flushed = log.flush();
+    match run {
+        Err(BoardTraceError::Terminal(error)) => Err(stopped(error, input.fault, output.fault)),
+        Err(BoardTraceError::Log) => Err(Refusal::Output),
+        Ok(end) => match flushed {
+            Ok(()) => Ok(ending_of(rt, "rrs trace", &board, end)),
+            Err(error) => Err(unwritten(error)),
+        },
+    }
+}
+
+/// Runs firmware as a request says, and writes the log of the run: to the file that it names, or to
+/// `errors`, which is standard error.
+///
+/// # Errors
+///
+/// Those of `run_board`, and those of `trace` on the log and on its first address.
+pub fn trace_firmware<'a, H: Files + Eprint + AllocGlobal, R: Read, W: Write, E: Write>(
+    rt: &H,
+    request: Request<'a>,
+    input: &mut R,
+    output: &mut W,
+    errors: &mut E,
+) -> Result<Ending, Refusal<'a>> {
+    let file = read_program(rt, request.path())?;
+    let from = match request.symbols {
+        Some(path) => start_of(path, &read_program(rt, path)?, request)?,
+        None => start_of(request.path(), &file, request)?,
+    };
+    let board = board_with(rt, request, &file)?;
+    match created(rt, request.output)? {
+        Some(mut log) => {
+            let ended = trace_loaded(rt, board, request, from, input, output, &mut log);
+            named(ended, request.output.unwrap_or(""), log.fault)
+        }
+        None => {
+            let mut log = Noting::new(errors);
+            let ended = trace_loaded(rt, board, request, from, input, output, &mut log);
             named(ended, STANDARD_ERROR, log.fault)
         }
     }
