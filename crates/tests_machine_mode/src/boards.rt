@@ -2,7 +2,9 @@
 
 use crate::packets::wanted;
 use rrs_board::memory::Ram;
-use rrs_board::{Board, BoardEnd, BoardError, BoardEvent, PlainRuns, TerminalError, run_at_terminal};
+use rrs_board::{
+    Board, BoardEnd, BoardError, BoardEvent, PlainRuns, TerminalError, run_at_terminal,
+};
 use rrs_board_gdb::{BoardSession, serve};
 use rrs_gdb::{Link, LinkError, encode};
 use std::alloc::{AllocError, Global};
@@ -326,7 +328,14 @@ fn at_terminal(
 ) -> Result<Result<Option<BoardEvent>, TerminalError>, AllocError> {
     let mut board = firmware_at(alloc, pc)?;
     Ok(
-        match run_at_terminal(&mut PlainRuns, &mut board, 10_000, false, &mut input, output) {
+        match run_at_terminal(
+            &mut PlainRuns,
+            &mut board,
+            10_000,
+            false,
+            &mut input,
+            output,
+        ) {
             Ok(end) => Ok(end.event),
             Err(error) => Err(error),
         },
