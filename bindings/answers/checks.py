@@ -177,7 +177,7 @@ def refusal_of(file):
     for number, is_right, value in ((8, machine == 243, machine), (9, version == 1, version),
                                     (10, flags & 1 == 0, 0), (11, flags & 6 == 0, 0),
                                     (12, flags & 8 == 0, 0), (13, size == 32, size),
-                                    (14, count != 0xFFFF, 0)):
+                                    (14, count <= 256, 0)):
         if not is_right:
             return number, value, 0
     if phoff + 32 * count > len(file):

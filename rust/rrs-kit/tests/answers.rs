@@ -12,7 +12,10 @@ use rrs_kit::gdb::history::{Change, step_noted, undo};
 use rrs_kit::instruction::{Instruction, decode};
 use rrs_kit::instruction_executor::{InstructionException, InstructionExecutor};
 use rrs_kit::machine::csrs::is_read_only;
-use rrs_kit::machine::system::{MachineRetired, step_machine_retired};
+use rrs_kit::machine::instructions::SystemInstruction;
+use rrs_kit::machine::system::{
+    AtomicInstruction, LayerInstruction, MachineRetired, decode_layer, step_machine_retired,
+};
 use rrs_kit::machine::{Csr, CsrFile, Inputs, MachineAnswer, Profile};
 use rrs_kit::memories::SliceMemory;
 use rrs_kit::trace::{
@@ -29,7 +32,7 @@ const OF_C: [&str; 5] = ["name", "cause", "compare", "retire", "rvfi32"];
 /// How many questions of `rrs-replay` have answers from elsewhere.
 const FROM_ELSEWHERE: usize = 3402;
 /// How many questions are answered.
-const ASKED: usize = FROM_ELSEWHERE + 5610 - 276 - 900 - 122 - 320 - 212;
+const ASKED: usize = FROM_ELSEWHERE + 5716 - 296 - 900 - 122 - 320 - 212;
 
 /// What is left of a line.
 struct Line<'a>(&'a str);
@@ -176,8 +179,25 @@ fn answer_word(name: &str, line: &mut Line) -> Option<String> {
             let pc = hex(line.word());
             decode(hex(line.word())).map_or_else(none, |instruction| text(instruction, pc))
         }
-        "fields" => decode(hex(line.word())).map_or_else(none, |found| shown_fields(&found)),
+        "fields" => fields_of(hex(line.word())).unwrap_or_else(none),
         _ => return None,
+    })
+}
+
+/// The fields of a word of the table, or above it.
+fn fields_of(word: u32) -> Option<String> {
+    if let Some(found) = decode(word) {
+        return Some(shown_fields(&found));
+    }
+    Some(match decode_layer(word)? {
+        LayerInstruction::System(SystemInstruction { row, fields }) => {
+            let (rd, rs1, csr) = (fields.rd, fields.rs1, word >> 20);
+            format!("{} rd={rd} rs1={rs1} rs2=0 shamt=0 imm={csr}", row.number())
+        }
+        LayerInstruction::Atomic(AtomicInstruction { row, fields }) => {
+            let (rd, rs1, rs2, order) = (fields.rd, fields.rs1, fields.rs2, fields.funct7 % 4);
+            format!("{} rd={rd} rs1={rs1} rs2={rs2} shamt=0 imm={order}", row.number())
+        }
     })
 }
 

@@ -52,11 +52,12 @@ const FIRMWARE: [u32; 20] = [
 #[cfg(all(feature = "machine", feature = "std"))]
 #[test]
 fn the_board_has_its_devices_at_their_addresses() {
-    use rrs_kit::machine::board::{Board, BoardEnd, BoardEvent, run_at_terminal};
+    use rrs_kit::machine::board::{Board, BoardEnd, BoardEvent, PlainRuns, run_at_terminal};
     let image: Vec<u8> = FIRMWARE.iter().flat_map(|word| word.to_le_bytes()).collect();
     let mut board = Board::load_image(Global, &image, FIRMWARE.len()).unwrap();
     let mut output = Vec::new();
-    let end = run_at_terminal(&mut board, 9999, false, &mut &b"i"[..], &mut output);
+    let (mut runs, mut input) = (PlainRuns, &b"i"[..]);
+    let end = run_at_terminal(&mut runs, &mut board, 9999, false, &mut input, &mut output);
     let steps = 7 + 3 * 1001 + 10;
     assert_eq!(end, Ok(BoardEnd { steps, event: Some(BoardEvent::Finished(7)) }));
     let devices = &board.memory.devices;
