@@ -187,11 +187,17 @@ const QUIET_USAGE: &str = "usage: rrs run [--quiet] FILE LIMIT\n";
 
 /// How `rrs trace` is called.
 const TRACE_USAGE: &str = "usage: rrs trace [--limit STEPS] [--memory BYTES] [--clock fixed] \
-    [--from ADDRESS|SYMBOL]\n    [--output FILE] PROGRAM [ARGUMENT] ..\n";
+    [--from ADDRESS|SYMBOL]\n    [--output FILE] PROGRAM [ARGUMENT] ..\n       \
+    rrs trace --board [--limit STEPS] [--memory BYTES] [--input polled] [--raw]\n           \
+    [--dtb FILE] [--append TEXT] [--symbols FILE] [--from ADDRESS|SYMBOL]\n           \
+    [--output FILE] PROGRAM\n";
 
 /// How `rrs cover` is called.
 const COVER_USAGE: &str = "usage: rrs cover [--limit STEPS] [--memory BYTES] [--clock fixed] \
-    [--annotate]\n    [--callgrind FILE] [--output FILE] PROGRAM [ARGUMENT] ..\n";
+    [--annotate]\n    [--callgrind FILE] [--output FILE] PROGRAM [ARGUMENT] ..\n       \
+    rrs cover --board [--limit STEPS] [--memory BYTES] [--input polled] [--raw]\n           \
+    [--dtb FILE] [--append TEXT] [--symbols FILE] [--annotate] [--callgrind FILE]\n           \
+    [--output FILE] PROGRAM\n";
 
 /// How `rrs as` is called.
 const ASSEMBLE_USAGE: &str = "usage: rrs as [--gnu | --list] [-o OUTPUT] [--rars] \
