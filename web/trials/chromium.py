@@ -149,9 +149,9 @@ class Page:
     def resize(self, width, height):
         self.send("Emulation.setDeviceMetricsOverride", width=width, height=height,
                   deviceScaleFactor=1, mobile=False)
-        # until it is drawn so, and its own handler was called
+        # its own handler is called before it is drawn
         self.wait(f"innerWidth === {width} && innerHeight === {height}")
-        self.ask("new Promise((done) => requestAnimationFrame(() => setTimeout(done)))")
+        self.wait_drawn()
 
     def prefer(self, dark):
         value = "dark" if dark else "light"
@@ -174,6 +174,10 @@ class Page:
             if time.monotonic() > until:
                 raise Failed(f"in {seconds} s this did not come to hold: {expression}")
             time.sleep(0.01)
+
+    def wait_drawn(self):
+        """Waits until the page was drawn: what is shown again has its size then, and its lines."""
+        self.ask("new Promise((done) => requestAnimationFrame(() => setTimeout(done)))")
 
     def text(self, selector):
         """What stands in an element."""

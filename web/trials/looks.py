@@ -387,6 +387,7 @@ def boxes(machine):
         page.ask("scrollTo(0, 0)")
         page.wait("$('memory').rows[0].cells.length - 2 ==="
                   " ($('memory').parentElement.clientWidth < 440 ? 2 : 4)", 5)
+        page.wait("['.line.stop', '.line.pc'].every((line) => document.querySelector(line))", 5)
         for dark in (True, False):
             page.prefer(dark)
             same(f"the marks at {width}, {'dark' if dark else 'light'}", WANTED_MARKS,

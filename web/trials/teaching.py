@@ -58,7 +58,8 @@ def while_one_types(machine):
     page = machine.page
     machine.choose("three")
     type_source(machine, "nop\nmv a0, 5\n  addi a0, a0, 5000\nj nowhere\n")
-    page.wait(f"{MISTAKES}.length === 3", 5)
+    # as many mistakes has the text that was there before
+    page.wait(f"{MISTAKES}.length === 3 && {MISTAKES}[2].endsWith('nowhere')", 5)
     same("the mistakes", [
         "Line 2: a register is wanted here: li takes a number",
         "Line 3: value out of range: addi takes -2048 to 2047; li puts any number into a register",

@@ -33,6 +33,7 @@ class Machine:
         """Opens a program of the trials."""
         self.page.ask(f"rrs.closeLesson(); rrs.open({js(PROGRAMS[example])}, {{}}); null")
         self.leave_fields()
+        self.page.wait_drawn()
 
     def clean(self):
         """Has everything that a person can set as it is when the page opens, but the program."""
@@ -97,6 +98,7 @@ class Machine:
             self.open_settings()
             self.page.replace("#base", base)
         self.page.click("#take")
+        self.page.wait_drawn()
 
     def open_settings(self):
         """Shows what the editor has of the memory."""
@@ -114,6 +116,7 @@ class Machine:
                        " && !document.activeElement.closest('dialog, #editor')"
                        " && document.getElementById('editor').hidden", 5)
         self.leave_fields()
+        self.page.wait_drawn()
 
     def show(self, panel):
         """Shows one of the panels of details."""
