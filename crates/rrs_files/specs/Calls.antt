@@ -7,7 +7,7 @@ use Rattle.rrs_lib.specs.Bytes.{ByteMap, little_endian}
 use Rattle.rrs_lib.specs.AccessLists.{Access}
 use Rattle.rrs_lib.specs.Machine.{State}
 use Rattle.rrs_fast.specs.Serving.{Relation}
-use Rattle.rrs_linux.specs.Recording.{GivesText}
+use Rattle.rrs_linux.specs.Giving.{GivesText}
 use Rattle.rrs_linux.specs.Requests.{error}
 use Rattle.rrs_linux.specs.Statuses.{PutsBytes}
 use Rattle.rrs_linux.specs.SystemCalls.{answered}

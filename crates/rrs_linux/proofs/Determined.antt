@@ -263,43 +263,43 @@ module _ {writable : ℕ → Bool} {a count : ℕ} {left : List ℕ} where
       → left ≡ text' ++ rest' → ((i : ℕ) → i < length text' → writable (a + i) ≡ true)
       → GivingEnds writable a count left text xs answer → GivingEnds writable a count left text' xs' answer'
       → length text' ≤ length text
-  given_no_longer rest' parts open_there (Recording.IsWhole _ long _ _) (Recording.IsWhole _ long' _ _) =
+  given_no_longer rest' parts open_there (Giving.IsWhole _ long _ _) (Giving.IsWhole _ long' _ _) =
       omega (arith, long, long')
-  given_no_longer rest' {text' = text'} parts open_there (Recording.IsWhole _ long _ _)
-      (Recording.IsRefused byte rest _ short is _ _ _) =
+  given_no_longer rest' {text' = text'} parts open_there (Giving.IsWhole _ long _ _)
+      (Giving.IsRefused byte rest _ short is _ _ _) =
       omega (arith, long, short, ap length is, length-append text' (byte ∷ rest))
-  given_no_longer rest' parts open_there _ (Recording.PassesEnd _ none _ _) = omega (arith, ap length none)
-  given_no_longer rest' {text = text} {text' = text'} parts open_there (Recording.IsRefused _ _ _ _ _ refused _ _) _ =
+  given_no_longer rest' parts open_there _ (Giving.PassesEnd _ none _ _) = omega (arith, ap length none)
+  given_no_longer rest' {text = text} {text' = text'} parts open_there (Giving.IsRefused _ _ _ _ _ refused _ _) _ =
       elim (cases_lt (length text) (length text')) as (λ _. length text' ≤ length text) [
         | inl less ↦ absurd (false≢true (sym refused ∙ open_there (length text) less))
         | inr least ↦ least
       ]
-  given_no_longer rest' parts open_there (Recording.PassesEnd past _ _ _) (Recording.IsWhole fits _ _ _) =
+  given_no_longer rest' parts open_there (Giving.PassesEnd past _ _ _) (Giving.IsWhole fits _ _ _) =
       absurd (omega (arith, past, fits))
-  given_no_longer rest' parts open_there (Recording.PassesEnd past _ _ _) (Recording.IsRefused _ _ fits _ _ _ _ _) =
+  given_no_longer rest' parts open_there (Giving.PassesEnd past _ _ _) (Giving.IsRefused _ _ fits _ _ _ _ _) =
       absurd (omega (arith, past, fits))
 
   -- how one text is given
   given_one : {text : List ℕ} {xs xs' : List Access} {answer answer' : ℕ}
       → GivingEnds writable a count left text xs answer → GivingEnds writable a count left text xs' answer'
       → (xs ≡ xs') × (answer ≡ answer')
-  given_one (Recording.IsWhole _ _ xs is) (Recording.IsWhole _ _ xs' is') = (xs ∙ sym xs', is ∙ sym is')
-  given_one {text = text} (Recording.IsWhole _ long _ _) (Recording.IsRefused byte rest _ short parts _ _ _) =
+  given_one (Giving.IsWhole _ _ xs is) (Giving.IsWhole _ _ xs' is') = (xs ∙ sym xs', is ∙ sym is')
+  given_one {text = text} (Giving.IsWhole _ long _ _) (Giving.IsRefused byte rest _ short parts _ _ _) =
       absurd (omega (arith, long, short, ap length parts, length-append text (byte ∷ rest)))
-  given_one (Recording.IsWhole fits _ _ _) (Recording.PassesEnd past _ _ _) = absurd (omega (arith, fits, past))
-  given_one {text = text} (Recording.IsRefused byte rest _ short parts _ _ _) (Recording.IsWhole _ long _ _) =
+  given_one (Giving.IsWhole fits _ _ _) (Giving.PassesEnd past _ _ _) = absurd (omega (arith, fits, past))
+  given_one {text = text} (Giving.IsRefused byte rest _ short parts _ _ _) (Giving.IsWhole _ long _ _) =
       absurd (omega (arith, long, short, ap length parts, length-append text (byte ∷ rest)))
-  given_one {text = text} (Recording.IsRefused byte rest _ _ parts _ xs is)
-      (Recording.IsRefused byte' rest' _ _ parts' _ xs' is') =
+  given_one {text = text} (Giving.IsRefused byte rest _ _ parts _ xs is)
+      (Giving.IsRefused byte' rest' _ _ parts' _ xs' is') =
       let behind = append_cancel_left text (byte ∷ rest) (byte' ∷ rest') (sym parts ∙ parts') in
       let next : byte ≡ byte' = ap (λ l. get_or l 0 0) behind in
       (xs ∙ ap (λ b. byte_writes writable a (text ++ b ∷ [])) next ∙ sym xs', is ∙ sym is')
-  given_one (Recording.IsRefused _ _ fits _ _ _ _ _) (Recording.PassesEnd past _ _ _) =
+  given_one (Giving.IsRefused _ _ fits _ _ _ _ _) (Giving.PassesEnd past _ _ _) =
       absurd (omega (arith, fits, past))
-  given_one (Recording.PassesEnd past _ _ _) (Recording.IsWhole fits _ _ _) = absurd (omega (arith, fits, past))
-  given_one (Recording.PassesEnd past _ _ _) (Recording.IsRefused _ _ fits _ _ _ _ _) =
+  given_one (Giving.PassesEnd past _ _ _) (Giving.IsWhole fits _ _ _) = absurd (omega (arith, fits, past))
+  given_one (Giving.PassesEnd past _ _ _) (Giving.IsRefused _ _ fits _ _ _ _ _) =
       absurd (omega (arith, fits, past))
-  given_one (Recording.PassesEnd _ _ xs is) (Recording.PassesEnd _ _ xs' is') = (xs ∙ sym xs', is ∙ sym is')
+  given_one (Giving.PassesEnd _ _ xs is) (Giving.PassesEnd _ _ xs' is') = (xs ∙ sym xs', is ∙ sym is')
 
 -- what a read leaves of the input and of the memory, its answer and its accesses
 record SameReads (left left' : List ℕ) (bytes bytes' : ByteMap) (answer answer' : ℕ) (xs xs' : List Access) : Type 0 where

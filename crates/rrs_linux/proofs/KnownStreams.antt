@@ -9,7 +9,8 @@ use Rattle.rrs_lib.specs.AccessLists.{Makes}
 use Rattle.rrs_lib.specs.Loading.{Loaded, byte_writes}
 use Rattle.rrs_fast.specs.Serving.{MakesSome}
 use Rattle.rrs_linux.specs.Transfers.{Stands, byte_reads}
-use Rattle.rrs_linux.specs.Recording.{TakingEnds, TakesOutput, GivingEnds, GivesText}
+use Rattle.rrs_linux.specs.Giving.{GivingEnds, GivesText}
+use Rattle.rrs_linux.specs.Recording.{TakingEnds, TakesOutput}
 use Rattle.rrs_memory.proofs.LoadLemmas.{Loaded-next, writes-next}
 use Rattle.rrs_linux.proofs.Written.{Stands-append}
 

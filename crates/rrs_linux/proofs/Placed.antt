@@ -7,8 +7,8 @@ use Rattle.rrs_lib.specs.Bytes.{ByteMap}
 use Rattle.rrs_lib.specs.AccessLists.{Access}
 use Rattle.rrs_lib.specs.Loading.{Loaded, byte_writes}
 use Rattle.rrs_fast.specs.Serving.{MakesSome}
-use Rattle.rrs_linux.specs.Recording
-use Rattle.rrs_linux.specs.Recording.{GivesText, GivingEnds}
+use Rattle.rrs_linux.specs.Giving
+use Rattle.rrs_linux.specs.Giving.{GivesText, GivingEnds}
 use Rattle.rrs_linux.specs.Requests.{error}
 use Rattle.rrs_linux.specs.Statuses
 use Rattle.rrs_linux.specs.Statuses.{PutsBytes, IsPut}
@@ -44,11 +44,11 @@ ends_so : {writable : ℕ → Bool} {a count failures failures' answer : ℕ} {l
     (at_hand text : List ℕ) (accesses : List Access) → 0 < count → 0 < length at_hand
     → GivingEnds writable a count at_hand text accesses answer
     → ReadEnds writable a count at_hand text left failures failures' accesses answer
-ends_so at_hand text accesses asked some (Recording.IsWhole fits long made answers) =
+ends_so at_hand text accesses asked some (Giving.IsWhole fits long made answers) =
     IsGiven fits (omega (arith, long)) long made answers
-ends_so at_hand text accesses asked some (Recording.IsRefused byte more fits short is refused made answers) =
+ends_so at_hand text accesses asked some (Giving.IsRefused byte more fits short is refused made answers) =
     IsRefused byte more fits short refused is made answers
-ends_so at_hand text accesses asked some (Recording.PassesEnd past none made answers) =
+ends_so at_hand text accesses asked some (Giving.PassesEnd past none made answers) =
     PassesEnd past none made answers
 
 module _ {M : Type 0} {reads : M → ℕ → MemAccessSize → M → Option ℕ → Type 0}
@@ -107,7 +107,7 @@ put_by : {writable : ℕ → Bool} {bytes bytes' : ByteMap} {a count answer : �
     → length text ≡ n → whole ≡ text ++ left → Loaded bytes bytes' writable a text
     → GivingEnds writable a count whole text xs answer → Put writable bytes bytes' a whole n xs
 put_by {writable = writable} {bytes = bytes} {bytes' = bytes'} {a = a} {xs = xs} whole text left n asked small some long
-    parts loaded (Recording.IsWhole fits given made _) =
+    parts loaded (Giving.IsWhole fits given made _) =
     let all : n ≡ length whole = omega (arith, given, asked, small, long) in
     let none : length left ≡ 0 = omega (arith, ap length parts, length-append text left, long, all) in
     let same : text ≡ whole = sym (append-nil text) ∙ ap (λ l. text ++ l) (sym (no_length left none)) ∙ sym parts in
@@ -116,14 +116,14 @@ put_by {writable = writable} {bytes = bytes} {bytes' = bytes'} {a = a} {xs = xs}
           refl;
       not_all = λ other. absurd (other all);
     }
-put_by whole text left n asked small some long parts loaded (Recording.IsRefused byte rest fits short is closed made _) =
+put_by whole text left n asked small some long parts loaded (Giving.IsRefused byte rest fits short is closed made _) =
     let less : n < length whole = omega (arith, short, asked, long) in
     record {
       all = λ e. absurd (omega (arith, e, less));
       not_all = λ other. Statuses.IsRefused text byte rest is (omega (arith, fits, asked)) loaded closed made refl;
     }
 put_by {writable = writable} {bytes = bytes} {bytes' = bytes'} {a = a} whole text left n asked small some long parts
-    loaded (Recording.PassesEnd past none made _) =
+    loaded (Giving.PassesEnd past none made _) =
     let zero_given : n ≡ 0 = sym long ∙ ap length none in
     record {
       all = λ e. absurd (omega (arith, e, zero_given, some));

@@ -3,6 +3,7 @@
 pub mod Requests
 pub mod BufferedBytes
 pub mod Transfers
+pub mod Giving
 pub mod Statuses
 pub mod Vectors
 pub mod Clocks

@@ -3,15 +3,15 @@
 -- is as over any streams (`Asks`), and so are the bytes and the accesses; but nothing here fails by
 -- the host, so each outcome follows from the environment and the machine (read(2), write(2)).
 use denote.Bor.{Bor}
-use Rattle.std.specs.Prelude.{◌≡◌, ℕ, ◌+◌, ◌-◌, ◌^◌, ◌<◌, ◌≤◌, min, Bool, false, List, [], ◌∷◌, ◌++◌, length, Option, None, Vec, vec_capacity}
+use Rattle.std.specs.Prelude.{◌≡◌, ℕ, ◌+◌, ◌-◌, ◌^◌, ◌<◌, ◌≤◌, min, List, [], ◌++◌, length, Option, None, Vec, vec_capacity}
 use Rattle.std.specs.declared.alloc.Global.{Global}
 use Rattle.rrs_lib.specs.Bytes.{ByteMap}
 use Rattle.rrs_lib.specs.AccessLists.{Access}
-use Rattle.rrs_lib.specs.Loading.{Loaded, byte_writes}
 use Rattle.rrs_lib.specs.Machine.{State}
 use Rattle.rrs_linux.specs.declared.Process.{Process}
 use Rattle.rrs_linux.specs.declared.recorder.Known.{Known}
 use Rattle.rrs_linux.specs.Clocks.{Tells, TellsStopped}
+use Rattle.rrs_linux.specs.Giving.{GivesText}
 use Rattle.rrs_linux.specs.Requests.{error}
 use Rattle.rrs_linux.specs.SystemCalls.{ServesBy, AreAlike}
 use Rattle.rrs_linux.specs.Transfers.{Gives, Takes, Stands, byte_reads, counted, most_bytes}
@@ -53,38 +53,6 @@ pub record TakesText (bytes : ByteMap) (a count capacity : ℕ) (old new : List 
   pub reads : ℕ
   pub ended : TakingEnds bytes a count (capacity - length old) text reads answer
   pub accessed : accesses ≡ byte_reads bytes a reads
-
--- ---- read
-
--- How the read to a buffer at a, of a text that was given of the input that was left, ended: the
--- accesses, and the answer.
-pub data GivingEnds (writable : ℕ → Bool) (a count : ℕ) (left text : List ℕ)
-    (accesses : List Access) (answer : ℕ) : Type 0 where
-  -- as many bytes are given as there are and were asked for, or as one call reads
-  IsWhole :
-      a + count ≤ 2 ^ 32 → length text ≡ min (min count most_bytes) (length left)
-      → accesses ≡ byte_writes writable a text → answer ≡ length text
-      → GivingEnds writable a count left text accesses answer
-  -- the next address is not writable: the byte for it is the next of the input still
-  IsRefused : (byte : ℕ) (rest : List ℕ)
-      → a + count ≤ 2 ^ 32 → length text < min count most_bytes
-      → left ≡ text ++ byte ∷ rest → writable (a + length text) ≡ false
-      → accesses ≡ byte_writes writable a (text ++ byte ∷ [])
-      → answer ≡ counted (length text) (error 14)
-      → GivingEnds writable a count left text accesses answer
-  -- the buffer passes the last address
-  PassesEnd :
-      2 ^ 32 < a + count → text ≡ [] → accesses ≡ [] → answer ≡ error 14
-      → GivingEnds writable a count left text accesses answer
-
--- The next bytes of the input are given to a buffer, in order, from its first on, and all others
--- are left.
-pub record GivesText (writable : ℕ → Bool) (bytes bytes' : ByteMap) (a count : ℕ)
-    (left left' : List ℕ) (answer : ℕ) (accesses : List Access) : Type 0 where
-  pub text : List ℕ
-  pub loaded : Loaded bytes bytes' writable a text
-  pub consumed : left ≡ text ++ left'
-  pub ended : GivingEnds writable a count left text accesses answer
 
 -- ---- a call
 

@@ -14,6 +14,7 @@ use Rattle.rrs_linux.specs.declared.requests.Request.TheVariants.{Exit, Answer, 
 use Rattle.rrs_linux.specs.Requests.{Asks, error}
 use Rattle.rrs_linux.specs.BufferedBytes.{buffered_bytes}
 use Rattle.rrs_linux.specs.Clocks.{Tells, TellsTime, PutsTime, form_of}
+use Rattle.rrs_linux.specs.Giving.{GivesText}
 use Rattle.rrs_linux.specs.Statuses.{PutsBytes, PutsNamed, stream_status, extended_status}
 use Rattle.rrs_linux.specs.Transfers.{Gives, Takes, WritesText, ReadsText}
 use Rattle.rrs_linux.specs.Vectors.{WritesVector}

@@ -3,7 +3,7 @@
 ghost use Rattle.std.specs.Prelude.{◌≡◌, ◌≤◌, ◌<◌, ◌+◌, ◌^◌, min, take, drop, length, None, MatchOption};
 ghost use Rattle.rrs_lib.specs.AccessLists.{Makes};
 ghost use Rattle.rrs_fast.specs.Serving.{MakesSome};
-ghost use Rattle.rrs_linux.specs.Recording.{GivesText};
+ghost use Rattle.rrs_linux.specs.Giving.{GivesText};
 ghost use Rattle.rrs_linux.specs.Statuses.{PutsBytes};
 ghost use Rattle.rrs_linux.specs.Transfers.{Stands, byte_reads, counted, most_bytes};
 

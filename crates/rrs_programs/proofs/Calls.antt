@@ -24,7 +24,9 @@ use Rattle.rrs_linux.specs.Requests.{Asks, error, AsksBy, TakesEach, ToExit, ToR
 use Rattle.rrs_linux.specs.SystemCalls.{Does, ServesBy, WritesOutput, ended_by}
 use Rattle.rrs_linux.specs.Transfers
 use Rattle.rrs_linux.specs.Transfers.{Gives, Takes, Stands, WriteEnds, counted, most_bytes}
-use Rattle.rrs_linux.specs.Recording.{TakingEnds, TakesOutput, GivingEnds}
+use Rattle.rrs_linux.specs.Giving
+use Rattle.rrs_linux.specs.Giving.{GivingEnds}
+use Rattle.rrs_linux.specs.Recording.{TakingEnds, TakesOutput}
 use Rattle.rrs_linux.specs.Recording
 use Rattle.rrs_linux.proofs.Determined.{same_text}
 use Rattle.rrs_linux.proofs.Written.{Stands-take}
@@ -300,10 +302,10 @@ took_some contents bytes a count text old new answer accesses known stands write
 pub given_all : (writable : ℕ → Bool) (a count answer : ℕ) (left text : List ℕ) (accesses : List Access)
     → IsWritable writable a count → a + count ≤ 2 ^ 32 → GivingEnds writable a count left text accesses answer
     → (length text ≡ min (min count most_bytes) (length left)) × (answer ≡ length text)
-given_all writable a count answer left text accesses open_there fits (Recording.IsWhole fits' long are answers) =
+given_all writable a count answer left text accesses open_there fits (Giving.IsWhole fits' long are answers) =
     (long, answers)
 given_all writable a count answer left text accesses open_there fits
-    (Recording.IsRefused byte rest fits' short is refused are answers) =
+    (Giving.IsRefused byte rest fits' short is refused are answers) =
     absurd (false≢true (sym refused ∙ open_there (length text) (omega arith)))
-given_all writable a count answer left text accesses open_there fits (Recording.PassesEnd past none are answers) =
+given_all writable a count answer left text accesses open_there fits (Giving.PassesEnd past none are answers) =
     absurd (omega arith)

@@ -2,7 +2,7 @@ use Rattle.std.proofs.Common.{◌≡◌, ◌+◌, ◌<◌, [], ◌∷◌, ◌++�
 use Rattle.std.proofs.lemmas.List.{length-take-le}
 use Rattle.rrs_linux.specs.Requests.{error}
 use Rattle.rrs_linux.specs.Transfers.{counted}
-use Rattle.rrs_linux.specs.Recording.{IsWhole, IsRefused, PassesEnd}
+use Rattle.rrs_linux.specs.Giving.{IsWhole, IsRefused, PassesEnd}
 use Rattle.rrs_linux.proofs.Placed.{none_loaded}
 use Rattle.rrs_linux.proofs.KnownStreams.{gives_text, written_next, given_next, left_after}
 use Rattle.rrs_linux.proofs.buffers.give_bytes.Goals as goal
