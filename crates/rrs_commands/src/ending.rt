@@ -11,6 +11,7 @@ use crate::subcommands::Subcommand;
 use rrs_cli::command::{Command, NamedFailure};
 use rrs_fast::Ending;
 use rrs_lib::instruction_executor::InstructionException;
+use rrs_linux::BRK;
 use rrs_reports::ShownName;
 use rrs_run_commands::options::Task;
 use rrs_run_commands::refusal::{FileFault, HostFault, Refusal};
@@ -124,12 +125,18 @@ fn tell_refusal<H: Eprint>(
     }
 }
 
-/// Writes on standard error which system calls a program made that are not served: a line for each
-/// number. Where that can't be printed nothing is told.
+/// Writes on standard error which system calls a program made that are not served, a line for each
+/// number, and that it was refused memory. Where that can't be printed nothing is told.
 pub fn tell_unserved<H: Eprint>(rt: &H, subcommand: &Subcommand, numbers: &[u32]) {
     let program = subcommand.command;
     for number in numbers {
         let _ = match call_name(*number) {
+            Some(_) if *number == BRK => {
+                eprintln!(rt;
+                    "{}: the program was refused memory: --memory gives it more",
+                    program.name
+                )
+            }
             Some(call) => {
                 eprintln!(rt;
                     "{}: the system call {call} ({number}) is not served",

@@ -1,5 +1,5 @@
 -- What a system call does to the environment and to the machine, and whether it ends the program.
-use Rattle.std.specs.Prelude.{◌≡◌, ℕ, ◌==◌, ◌&&◌, ◌||◌, nat_le, if◌then◌else◌, List, [], ◌∷◌, ◌++◌, length, Option, Some, None, pos}
+use Rattle.std.specs.Prelude.{◌≡◌, ℕ, ◌==◌, ◌&&◌, ◌||◌, nat_le, nat_lt, if◌then◌else◌, List, [], ◌∷◌, ◌++◌, length, Option, Some, None, pos}
 use Rattle.std.specs.List.{list_any}
 use Rattle.std.specs.declared.time.Duration.{Duration}
 use Rattle.rrs_lib.specs.Bytes.{ByteMap}
@@ -41,6 +41,12 @@ abbrev pub noted : List ℕ → ℕ → List ℕ
 noted numbers call =
     if list_any (λ number. number == call) numbers || length numbers == 16 then numbers
     else numbers ++ call ∷ []
+
+-- These numbers when a break is asked for: that of brk, 214, is among them where the program was
+-- refused memory, since the address is past the highest break.
+abbrev pub noted_break : Heap → List ℕ → ℕ → List ℕ
+noted_break heap numbers address =
+    if nat_lt heap.end address then noted numbers 214 else numbers
 
 -- By which streams are alike: environments are alike that have such streams, one heap, the same
 -- numbers of calls that there are not, and the same kept of the input.
@@ -86,7 +92,11 @@ module _ {R W E K : Type 0} (gives : Gives R K) (takes : Takes W) (takes_errors 
       × PutsTime (form_of form) s.writable s.bytes bytes told a accesses answer
       × (t ≡ answered (record s { bytes = bytes }) answer)
   Does (SetBreak address) old s new t accesses end =
-      (end ≡ None) × (new ≡ record old { heap = moved old.heap address })
+      (end ≡ None)
+      × (new ≡ record old {
+        heap = moved old.heap address;
+        unserved = record { items = noted_break old.heap old.unserved.items address };
+      })
       × (t ≡ answered s (moved old.heap address).top) × (accesses ≡ [])
   Does (Read a count) old s new t accesses end =
       (end ≡ None) × (input : R) × (held : K) × (bytes : ByteMap) × (answer : ℕ)

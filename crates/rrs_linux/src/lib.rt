@@ -32,7 +32,7 @@ use crate::host::NOBODY_READS;
 use crate::pieces::write_pieces;
 use crate::requests::{NO_SUCH_CALL, system_call_of};
 use crate::statuses::{put_extended_status, put_named_status, put_status};
-use crate::unserved::keep_number;
+use crate::unserved::{keep_number, note_break};
 use arrayvec::ArrayVec;
 pub use buffers::{copy_chunk, give_bytes, most_of, put_bytes};
 pub use clocks::{Clocks, LinuxClocks, StoppedClocks, TimeForm};
@@ -40,7 +40,7 @@ pub use host_side::HostSide;
 pub use host_writer::HostWriter;
 pub use input_buffer::InputBuffer;
 pub use recorder::{Known, OutputRecorder, records_determined};
-pub use requests::Request;
+pub use requests::{BRK, Request};
 use rrs_fast::Environment;
 use rrs_lib::instruction_executor::InstructionExecutor;
 use rrs_lib::{HartState, Memory};
@@ -98,7 +98,8 @@ pub struct Process<R, W, E, K> {
     /// The program's heap.
     pub heap: Heap,
     /// The numbers of the calls that it made and that are not served: each once, in the order in
-    /// which they were first made, and 16 at most.
+    /// which they were first made, and 16 at most. That of `brk` is among them where the program was
+    /// refused memory.
     pub unserved: ArrayVec<u32, MOST_UNSERVED>,
     /// What is kept between two calls, which says of what kind the environment is: of a [Linux]
     /// what was read of its input and not given to the program yet, and its clocks.
@@ -161,7 +162,10 @@ impl<R: Input<K>, W: Output, E: Output, K: Clocks> Environment for Process<R, W,
             Request::Time(clock, form, address) => {
                 go_on(hart, put_time(self.held.tell(clock), form, mem, address))
             }
-            Request::SetBreak(address) => go_on(hart, self.heap.set_break(address)),
+            Request::SetBreak(address) => {
+                note_break(self.heap, &mut self.unserved, address);
+                go_on(hart, self.heap.set_break(address))
+            }
             Request::Read(address, count) => {
                 let answer = self.input.read_to(&mut self.held, mem, address, count);
                 go_on(hart, answer)

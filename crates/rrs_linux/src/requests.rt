@@ -33,8 +33,8 @@ const EXIT_GROUP: u32 = 94;
 const GETTIMEOFDAY: u32 = 169;
 /// `getpid`.
 const GETPID: u32 = 172;
-/// `brk`.
-const BRK: u32 = 214;
+/// The number of `brk`.
+pub const BRK: u32 = 214;
 /// `statx`.
 const STATX: u32 = 291;
 /// `clock_gettime64`.

@@ -1,8 +1,10 @@
 //! The numbers of the calls that are not served.
 
 ghost use Rattle.std.specs.Prelude.{◌≡◌};
-ghost use Rattle.rrs_linux.specs.SystemCalls.{noted};
+ghost use Rattle.rrs_linux.specs.SystemCalls.{noted, noted_break};
 
+use crate::Heap;
+use crate::requests::BRK;
 use arrayvec::ArrayVec;
 
 /// How many numbers of calls that are not served are kept.
@@ -14,5 +16,15 @@ pub fn keep_number(numbers: &mut ArrayVec<u32, MOST_UNSERVED>, number: u32)
 {
     if !numbers.contains(&number) && !numbers.is_full() {
         numbers.push(number);
+    }
+}
+
+/// Keeps the number of `brk` where a program asks for a break past the highest one: it is refused
+/// memory.
+pub(crate) fn note_break(heap: Heap, numbers: &mut ArrayVec<u32, MOST_UNSERVED>, address: u32)
+    ensures { numbers.new.items ≡ noted_break heap numbers.old.items address }
+{
+    if heap.end < address {
+        keep_number(numbers, BRK);
     }
 }

@@ -10,7 +10,7 @@ use Rattle.rrs_linux.specs.declared.requests.Request.{Request}
 use Rattle.rrs_linux.specs.declared.requests.Request.TheVariants.{Exit, Answer, NoCall, Status, NamedStatus, ExtendedStatus, Time, SetBreak, Read, WriteOutput, WriteErrors, WriteOutputPieces, WriteErrorPieces}
 use Rattle.rrs_linux.specs.Clocks.{Tells}
 use Rattle.rrs_linux.specs.Requests.{Asks}
-use Rattle.rrs_linux.specs.SystemCalls.{Does, ServesBy, answered, noted}
+use Rattle.rrs_linux.specs.SystemCalls.{Does, ServesBy, answered}
 use Rattle.rrs_linux.specs.Transfers.{Gives, Takes}
 use Rattle.rrs_linux.proofs.ProcessEnvironment.serve.Goals as goal
 
@@ -51,12 +51,13 @@ pub returns-in-SetBreak-clause-served : goal.returns-in-SetBreak-clause-served
 returns-in-SetBreak-clause-served g c =
     let went = c.go_on-in-SetBreak.ensures in
     let set = c.set_break.ensures in
+    let kept = c.note_break.ensures in
     let process = c.args.self.now in
     let lent = c.args.executor.now in
     let s = state_of lent.hart_state.now (g.M.Memory.bytes lent.mem.now) (g.M.Memory.writable lent.mem.now) in
     let after = went.answered _ _ ∙ (λ i. answered s (set.answer i)) in
     served [] (SetBreak c.in-SetBreak.address) c.in-SetBreak.ensures
-    (went.goes_on, (λ i. record process { heap = set.moved i }), after, refl) refl
+    (went.goes_on, (λ i. record process { heap = set.moved i; unserved = record { items = kept i } }), after, refl) refl
 
 pub returns-in-Status-clause-served : goal.returns-in-Status-clause-served
 returns-in-Status-clause-served g c =
