@@ -26,6 +26,7 @@ fn main(rt: HostRuntime) -> ExitCode {
         Erasing::new(rt.stderr(), &terminal),
         heap,
         clocks,
+        0,
     );
     let mut errors = Erasing::new(rt.stderr(), &terminal);
     let line = ProgressLine::new(rt, &terminal);

@@ -472,6 +472,9 @@ ends_at_call (Fault fault) = is_call fault
 pub record OutputTaken (e e' : Recording) : Type 0 where
   pub input_kept : e'.input ≡ e.input
   pub heap_kept : e'.heap ≡ e.heap
+  pub unserved_kept : e'.unserved ≡ e.unserved
+  pub random_kept : e'.random ≡ e.random
+  pub held_kept : e'.held ≡ e.held
   pub output_taken : e'.output.items ≡ []
   pub errors_taken : e'.errors.items ≡ []
 
@@ -669,17 +672,32 @@ pub record Acts (actions : List ℕ) (ended : Bool) (asked : Asked) (limit : ℕ
 
 -- ---- the program goes back
 
--- A call is taken back: of the environment the input and the heap may change, and nothing else.
+-- What is noted before a call: of the environment how much input was left, the break, and the state
+-- of the pseudo-random numbers; and how much output had been made.
+abbrev pub mark_of : Recording → ℕ → CallMark
+mark_of e made =
+    record { left = length e.input.now; top = e.heap.top; made = made; random = e.random }
+
+-- That is noted of a call that is made, before those of the calls before it, as far as there is
+-- room.
+abbrev pub NotesCall : Recording → (old new : SessionState) → Type 0
+NotesCall e old new =
+    new.calls.items ≡ take old.calls.capacity (mark_of e old.made ∷ old.calls.items)
+
+-- A call is taken back: of the environment the input, the heap and the state of the pseudo-random
+-- numbers may change, and nothing else.
 pub record CallTakenBack (e e' : Recording) : Type 0 where
   pub output_kept : e'.output ≡ e.output
   pub errors_kept : e'.errors ≡ e.errors
+  pub unserved_kept : e'.unserved ≡ e.unserved
   pub held_kept : e'.held ≡ e.held
 
--- What was noted before the call is given back: the input that was left, the break, and how much
--- output had been made. The calls before it are noted still.
+-- What was noted before the call is given back: the input that was left, the break, the state of
+-- the pseudo-random numbers, and how much output had been made. The calls before it are noted still.
 pub record GivenBack (mark : CallMark) (old new : SessionState) (e e' : Recording) : Type 0 where
   pub input : e'.input.now ≡ drop (length old.input.now - mark.left) old.input.now
   pub top : e'.heap ≡ record e.heap { top = mark.top }
+  pub random : e'.random ≡ mark.random
   pub made : new.made ≡ mark.made
   pub calls : new.calls.items ≡ drop 1 old.calls.items
 

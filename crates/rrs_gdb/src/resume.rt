@@ -6,7 +6,7 @@ ghost use Rattle.rrs_gdb.specs.declared.back.BackEnd.{BackEnd};
 ghost use Rattle.rrs_lib.specs.Executor.{state_in};
 ghost use Rattle.rrs_linux.specs.Recording.{Recording};
 ghost use Rattle.rrs_gdb.specs.Shown.{Prints};
-ghost use Rattle.rrs_gdb.specs.Sessions.{CallMade, CallStops, CallTakenBack, GivenBack, GoesOn, IsAfterCall, OutputTaken, PassesBefore, PlacesKept, PrintsCall, SessionGoesBack, StopsBefore, StopsBehind, around, asked_by, ends_at_call, is_call, signal_of, still, stop_back, stop_of, stopped_at};
+ghost use Rattle.rrs_gdb.specs.Sessions.{CallMade, CallStops, CallTakenBack, GivenBack, GoesOn, IsAfterCall, NotesCall, OutputTaken, PassesBefore, PlacesKept, PrintsCall, SessionGoesBack, StopsBefore, StopsBehind, around, asked_by, ends_at_call, is_call, mark_of, signal_of, still, stop_back, stop_of, stopped_at};
 
 use crate::back::{BackEnd, go_back};
 use crate::forward::{ForwardEnd, ForwardReason, go_forward};
@@ -53,6 +53,7 @@ fn send_new<R: Read, W: Write>(
     ensures places { PlacesKept state.old state.new }
     ensures around { (e : Recording) → around state.new e ≡ around state.old e }
     ensures steps { state.new.steps ≡ state.old.steps }
+    ensures calls { state.new.calls ≡ state.old.calls }
     ensures sent { OnOk result (Prints W.contents link.old link.new
         (drop (state.old.sent - state.old.made) bytes.now)) }
     ensures made { state.old.made + length bytes.now < 2 ^ 64
@@ -79,6 +80,7 @@ fn send_made<R: Read, W: Write>(
     ensures places { PlacesKept state.old state.new }
     ensures around { (e : Recording) → around state.new e ≡ around state.old e }
     ensures steps { state.new.steps ≡ state.old.steps }
+    ensures calls { state.new.calls ≡ state.old.calls }
     ensures taken { OnOk result (OutputTaken environment.old environment.new) }
     ensures sent { state.old.made + length environment.old.output.items
         + length environment.old.errors.items < 2 ^ 64 → OnOk result (Prints W.contents link.old link.new
@@ -104,6 +106,7 @@ fn stop_before(state: &mut SessionState<'_>, number: u32) -> Option<Stop>
     ensures made { state.new.made ≡ state.old.made }
     ensures sent { state.new.sent ≡ state.old.sent }
     ensures steps { state.new.steps ≡ state.old.steps }
+    ensures calls { state.new.calls ≡ state.old.calls }
 {
     if state.catches(number) && !state.has_entered {
         state.has_entered = true;
@@ -126,6 +129,7 @@ fn stop_behind(state: &mut SessionState<'_>, number: u32, pc: u32) -> Option<Sto
         ((state.old.has_entered ≡ false) × ¬ Contains state.old.breaks.stops.items pc)
         (λ at. StopsBehind state.old.has_entered state.old.breaks.stops.items number pc at) }
     ensures steps { state.new.steps ≡ state.old.steps }
+    ensures calls { state.new.calls ≡ state.old.calls }
 {
     if state.has_entered {
         state.has_entered = false;
@@ -135,6 +139,18 @@ fn stop_behind(state: &mut SessionState<'_>, number: u32, pc: u32) -> Option<Sto
         return Some(Stop::Signal(TRAPPED));
     }
     None
+}
+
+/// What an environment has before a call, by how many bytes of output were made.
+fn mark_of(environment: &OutputRecorder<'_>, made: u64) -> CallMark
+    ensures { result ≡ mark_of environment.now made }
+{
+    CallMark {
+        left: environment.input.len(),
+        top: environment.heap.top,
+        made,
+        random: environment.random,
+    }
 }
 
 /// Has the call at the pc served, and sends its output. The answer is the stop that comes of it.
@@ -163,17 +179,16 @@ fn make_call<M: Memory, R: Read, W: Write>(
     ensures counted { state.old.steps < 2 ^ 64 - 1 → IfOk result (λ stop. MatchOption stop
         (state.new.steps ≡ state.old.steps + 1)
         (λ at. IsAfterCall at → state.new.steps ≡ state.old.steps + 1)) }
+    ensures noted { IfOk result (λ stop. MatchOption stop
+        (NotesCall environment.old state.old state.new)
+        (λ at. IsAfterCall at → NotesCall environment.old state.old state.new)) }
     ensures acknowledges { link.new.acknowledges ≡ link.old.acknowledges }
 {
     let number = executor.hart_state.read_register(17);
     if let Some(stop) = stop_before(state, number) {
         return Ok(Some(stop));
     }
-    let mark = CallMark {
-        left: environment.input.len(),
-        top: environment.heap.top,
-        made: state.made,
-    };
+    let mark = mark_of(environment, state.made);
     let end = match step_served(executor, environment, &mut state.history) {
         Ok(end) => end,
         Err(fault) => return Ok(Some(Stop::Signal(signal_of(&fault)))),
@@ -295,6 +310,7 @@ fn take_call_back<'a>(state: &mut SessionState<'a>, environment: &mut OutputReco
         let start = input.len().saturating_sub(mark.left);
         environment.input = &input[start..];
         environment.heap.top = mark.top;
+        environment.random = mark.random;
         state.made = mark.made;
     }
 }

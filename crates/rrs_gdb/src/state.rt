@@ -72,6 +72,8 @@ pub(crate) struct CallMark {
     pub(crate) top: u32,
     /// How many bytes of output had been made.
     pub(crate) made: u64,
+    /// The state of the pseudo-random numbers.
+    pub(crate) random: u64,
 }
 
 /// Which calls are caught.

@@ -18,8 +18,8 @@ use Rattle.rrs_linux.specs.declared.clocks.TimeForm.TheVariants.{Timespec, Timev
 use Rattle.rrs_linux.specs.declared.recorder.Known.{Known}
 use Rattle.rrs_linux.specs.declared.requests.Request.{Request}
 use Rattle.rrs_linux.specs.declared.statuses.Lookup.{Lookup}
-use Rattle.rrs_linux.specs.declared.requests.Request.TheVariants.{Exit, Answer, NoCall, Status, NamedStatus, ExtendedStatus, Time, SetBreak, Read, WriteOutput, WriteErrors, WriteOutputPieces, WriteErrorPieces}
-use Rattle.rrs_linux.specs.Requests.{Asks, AsksBy, error, ToExit, ToRead, ToWriteOutput, ToWriteErrors, ToSetBreak, ToClose, ToControl, ToSeek, ToGetStatus, ToGetNamed, ToGetExtended, ToWriteOutputPieces, ToWriteErrorPieces, ToGetTime, ToGetTimeOfDay, ToGetNumber, OfNoFile, OfNoFlags, OfNoClock, OfNoCall, are_flags, are_statx_flags}
+use Rattle.rrs_linux.specs.declared.requests.Request.TheVariants.{Exit, Answer, NoCall, Status, NamedStatus, ExtendedStatus, Time, SetBreak, Names, Random, Read, WriteOutput, WriteErrors, WriteOutputPieces, WriteErrorPieces}
+use Rattle.rrs_linux.specs.Requests.{Asks, AsksBy, error, ToExit, ToRead, ToWriteOutput, ToWriteErrors, ToSetBreak, ToClose, ToControl, ToSeek, ToGetStatus, ToGetNamed, ToGetExtended, ToWriteOutputPieces, ToWriteErrorPieces, ToGetTime, ToGetTimeOfDay, ToGetNames, ToGetRandom, ToGetNumber, ToGetUser, OfNoFile, OfNoFlags, OfNoClock, OfNoCall, are_flags, are_statx_flags, are_random_flags}
 use Rattle.rrs_linux.specs.Clocks
 use Rattle.rrs_linux.specs.Clocks.{PutsTime, IsTold, form_of, stopped_at}
 use Rattle.rrs_linux.specs.Statuses
@@ -27,8 +27,11 @@ use Rattle.rrs_linux.specs.Statuses.{PutsBytes, PutsNamed, IsPut, IsNamed, faile
 use Rattle.rrs_linux.specs.Transfers.{Stands, byte_reads, most_bytes}
 use Rattle.rrs_linux.specs.Vectors
 use Rattle.rrs_linux.specs.Vectors.{WritesPieces, WritesVector, IsWritten, IsNegative, IsTooLong, together}
-use Rattle.rrs_linux.specs.SystemCalls.{Does, answered, moved, noted, ended_by}
-use Rattle.rrs_linux.specs.Recording.{TakingEnds, GivingEnds, GivesText, TakesText, GivesInput, TakesOutput, TellsKnown, Recording, Records, AlikeInputs, AlikeRecords, AlikeRecordings}
+use Rattle.rrs_linux.specs.SystemCalls.{Does, answered, moved, noted, noted_break, ended_by}
+use Rattle.rrs_linux.specs.Giving
+use Rattle.rrs_linux.specs.Giving.{GivingEnds, GivesText}
+use Rattle.rrs_linux.specs.Random.{random_bytes, state_after}
+use Rattle.rrs_linux.specs.Recording.{TakingEnds, TakesText, GivesInput, TakesOutput, TellsKnown, Recording, Records, AlikeInputs, AlikeRecords, AlikeRecordings}
 use Rattle.rrs_linux.specs.Recording
 
 -- ---- what is asked for
@@ -85,10 +88,14 @@ asked_for call a0 a1 a2 a3 a4 =
     else (if call == 291 then if_flags (are_statx_flags a2 a3) (extended a0 a1 a2 a4)
     else (if call == 403 then if_clock a0 (Time a0 Timespec a1)
     else (if call == 169 then Time 0 Timeval a0
+    else (if call == 160 then Names a0
+    else (if call == 278 then if_flags (are_random_flags a2) (Random a0 a1)
     else (if call == 57 then if_open a0 (Answer 0)
     else (if call == 29 then if_open a0 (Answer (error 25))
     else (if call == 62 then if_open a0 (Answer (error 29))
-    else (if call == 80 then if_open a0 (Status a1) else NoCall call)))))))))))))
+    else (if call == 80 then if_open a0 (Status a1)
+    else (if (call == 174) || (call == 175) || (call == 176) || (call == 177) then Answer 1000
+    else NoCall call))))))))))))))))
 
 asks_for : {call a0 a1 a2 a3 a4 : ℕ} {r : Request} → AsksBy call a0 a1 a2 a3 a4 r → r ≡ asked_for call a0 a1 a2 a3 a4
 unfolding asked_for
@@ -109,6 +116,14 @@ asks_for {a0 = a0} {a1 = a1} {a2 = a2} {a3 = a3} {a4 = a4} (ToWriteErrorPieces c
 asks_for {a0 = a0} {a1 = a1} {a2 = a2} {a3 = a3} {a4 = a4} (ToSetBreak c is) =
     is ∙ (λ i. asked_for (sym c i) a0 a1 a2 a3 a4)
 asks_for {a0 = a0} {a1 = a1} {a2 = a2} {a3 = a3} {a4 = a4} (ToGetNumber c is) =
+    is ∙ (λ i. asked_for (sym c i) a0 a1 a2 a3 a4)
+asks_for {a0 = a0} {a1 = a1} {a2 = a2} {a3 = a3} {a4 = a4} (ToGetUser (inl c) is) =
+    is ∙ (λ i. asked_for (sym c i) a0 a1 a2 a3 a4)
+asks_for {a0 = a0} {a1 = a1} {a2 = a2} {a3 = a3} {a4 = a4} (ToGetUser (inr (inl c)) is) =
+    is ∙ (λ i. asked_for (sym c i) a0 a1 a2 a3 a4)
+asks_for {a0 = a0} {a1 = a1} {a2 = a2} {a3 = a3} {a4 = a4} (ToGetUser (inr (inr (inl c))) is) =
+    is ∙ (λ i. asked_for (sym c i) a0 a1 a2 a3 a4)
+asks_for {a0 = a0} {a1 = a1} {a2 = a2} {a3 = a3} {a4 = a4} (ToGetUser (inr (inr (inr c))) is) =
     is ∙ (λ i. asked_for (sym c i) a0 a1 a2 a3 a4)
 asks_for {a0 = a0} {a1 = a1} {a2 = a2} {a3 = a3} {a4 = a4} (ToClose c fits is) =
     is ∙ sym (is_open a0 (Answer 0) fits) ∙ (λ i. asked_for (sym c i) a0 a1 a2 a3 a4)
@@ -140,18 +155,28 @@ asks_for {a0 = a0} {a1 = a1} {a2 = a2} {a3 = a3} {a4 = a4} (ToGetTime c fits is)
     is ∙ sym (is_clock a0 (Time a0 Timespec a1) fits) ∙ (λ i. asked_for (sym c i) a0 a1 a2 a3 a4)
 asks_for {a0 = a0} {a1 = a1} {a2 = a2} {a3 = a3} {a4 = a4} (ToGetTimeOfDay c is) =
     is ∙ (λ i. asked_for (sym c i) a0 a1 a2 a3 a4)
+asks_for {a0 = a0} {a1 = a1} {a2 = a2} {a3 = a3} {a4 = a4} (ToGetNames c is) =
+    is ∙ (λ i. asked_for (sym c i) a0 a1 a2 a3 a4)
+asks_for {a0 = a0} {a1 = a1} {a2 = a2} {a3 = a3} {a4 = a4} (ToGetRandom c known is) =
+    is ∙ sym (are_there (Random a0 a1) known) ∙ (λ i. asked_for (sym c i) a0 a1 a2 a3 a4)
 asks_for {a0 = a0} {a1 = a1} {a2 = a2} {a3 = a3} {a4 = a4} (OfNoClock c past is) =
     is ∙ sym (is_no_clock a0 (Time a0 Timespec a1) past) ∙ (λ i. asked_for (sym c i) a0 a1 a2 a3 a4)
 asks_for {a0 = a0} {a1 = a1} {a2 = a2} {a3 = a3} {a4 = a4} (OfNoFlags (inl named_so) is) =
     is ∙ sym (are_not (named a0 a1 a2 a3) named_so.1) ∙ (λ i. asked_for (sym named_so.0 i) a0 a1 a2 a3 a4)
-asks_for {a0 = a0} {a1 = a1} {a2 = a2} {a3 = a3} {a4 = a4} (OfNoFlags (inr named_so) is) =
+asks_for {a0 = a0} {a1 = a1} {a2 = a2} {a3 = a3} {a4 = a4} (OfNoFlags (inr (inl named_so)) is) =
     is ∙ sym (are_not (extended a0 a1 a2 a4) named_so.1) ∙ (λ i. asked_for (sym named_so.0 i) a0 a1 a2 a3 a4)
+asks_for {a0 = a0} {a1 = a1} {a2 = a2} {a3 = a3} {a4 = a4} (OfNoFlags (inr (inr random)) is) =
+    is ∙ sym (are_not (Random a0 a1) random.1) ∙ (λ i. asked_for (sym random.0 i) a0 a1 a2 a3 a4)
 asks_for {call = call} (OfNoCall none is) =
     is ∙ sym (rw (ne_eqb call 93 none.3) (rw (ne_eqb call 94 none.4) (rw (ne_eqb call 63 none.1)
     (rw (ne_eqb call 64 none.2) (rw (ne_eqb call 66 none.10) (rw (ne_eqb call 214 none.5) (rw (ne_eqb call 172 none.9)
     (rw (ne_eqb call 79 none.11) (rw (ne_eqb call 291 none.12)
-    (rw (ne_eqb call 403 none.13) (rw (ne_eqb call 169 none.14) (rw (ne_eqb call 57 none.0) (rw (ne_eqb call 29 none.6)
-    (rw (ne_eqb call 62 none.7) (rw (ne_eqb call 80 none.8) refl)))))))))))))))
+    (rw (ne_eqb call 403 none.13) (rw (ne_eqb call 169 none.14) (rw (ne_eqb call 160 none.15)
+    (rw (ne_eqb call 278 none.16) (rw (ne_eqb call 57 none.0) (rw (ne_eqb call 29 none.6)
+    (rw (ne_eqb call 62 none.7) (rw (ne_eqb call 80 none.8)
+    (rw (ne_eqb call 174 (λ c. none.17 (inl c))) (rw (ne_eqb call 175 (λ c. none.17 (inr (inl c))))
+    (rw (ne_eqb call 176 (λ c. none.17 (inr (inr (inl c))))) (rw (ne_eqb call 177 (λ c. none.17 (inr (inr (inr c)))))
+    refl)))))))))))))))))))))
 
 asks_one : (s : State) {r r' : Request} → Asks s r → Asks s r' → r ≡ r'
 asks_one s asks asks' = asks_for asks ∙ sym (asks_for asks')
@@ -633,6 +658,7 @@ does_one (NoCall call) s alike did did' = record {
     error_outputs = alike.error_outputs;
     heap = alike.heap;
     unserved = λ i. record { items = noted (alike.unserved i).items call };
+    random = alike.random;
     held = alike.held;
   };
   states = did.2 ∙ sym did'.2;
@@ -684,11 +710,38 @@ does_one (SetBreak a) s alike did did' =
         outputs = alike.outputs;
         error_outputs = alike.error_outputs;
         heap = heap;
-        unserved = alike.unserved;
+        unserved = λ i. record { items = noted_break (alike.heap i) (alike.unserved i).items a };
+        random = alike.random;
         held = alike.held;
       };
       states = did.2 ∙ ap (λ h. answered s h.top) heap ∙ sym did'.2;
       accesses = did.3 ∙ sym did'.3;
+      ends = did.0 ∙ sym did'.0;
+    }
+does_one (Names a) s alike did did' =
+    let same = same_put did.4 did'.4 in
+    let bytes : did.2 ≡ did'.2 = λ i x. same.memories x i in
+    record {
+      environments = alike_after did.1 did'.1 alike;
+      states = did.5 ∙ (λ i. answered (record s { bytes = bytes i }) (same.answers i)) ∙ sym did'.5;
+      accesses = same.accesses;
+      ends = did.0 ∙ sym did'.0;
+    }
+does_one (Random a count) s alike did did' =
+    let same = same_reads (λ i. random_bytes (alike.random i) 32) did.5 did'.5 in
+    let bytes : did.2 ≡ did'.2 = λ i x. same.memories x i in
+    record {
+      environments = alike_after did.1 did'.1 record {
+        inputs = alike.inputs;
+        outputs = alike.outputs;
+        error_outputs = alike.error_outputs;
+        heap = alike.heap;
+        unserved = alike.unserved;
+        random = λ i. state_after (alike.random i) 32;
+        held = alike.held;
+      };
+      states = did.6 ∙ (λ i. answered (record s { bytes = bytes i }) (same.answers i)) ∙ sym did'.6;
+      accesses = same.accesses;
       ends = did.0 ∙ sym did'.0;
     }
 does_one (Read a count) s alike did did' =
@@ -701,6 +754,7 @@ does_one (Read a count) s alike did did' =
         error_outputs = alike.error_outputs;
         heap = alike.heap;
         unserved = alike.unserved;
+        random = alike.random;
         held = did.5.1 ∙ alike.held ∙ sym did'.5.1;
       };
       states = did.7 ∙ (λ i. answered (record s { bytes = bytes i }) (same.answers i)) ∙ sym did'.7;
@@ -716,6 +770,7 @@ does_one (WriteOutput a count) s {e = e} {e' = e'} alike did did' =
         error_outputs = alike.error_outputs;
         heap = alike.heap;
         unserved = alike.unserved;
+        random = alike.random;
         held = alike.held;
       };
       states = did.4 ∙ ap (answered s) same.answers ∙ sym did'.4;
@@ -731,6 +786,7 @@ does_one (WriteErrors a count) s {e = e} {e' = e'} alike did did' =
         error_outputs = same.records;
         heap = alike.heap;
         unserved = alike.unserved;
+        random = alike.random;
         held = alike.held;
       };
       states = did.4 ∙ ap (answered s) same.answers ∙ sym did'.4;
@@ -746,6 +802,7 @@ does_one (WriteOutputPieces a count) s {e = e} {e' = e'} alike did did' =
         error_outputs = alike.error_outputs;
         heap = alike.heap;
         unserved = alike.unserved;
+        random = alike.random;
         held = alike.held;
       };
       states = did.4 ∙ ap (answered s) same.answers ∙ sym did'.4;
@@ -761,6 +818,7 @@ does_one (WriteErrorPieces a count) s {e = e} {e' = e'} alike did did' =
         error_outputs = same.records;
         heap = alike.heap;
         unserved = alike.unserved;
+        random = alike.random;
         held = alike.held;
       };
       states = did.4 ∙ ap (answered s) same.answers ∙ sym did'.4;
@@ -771,7 +829,7 @@ does_one (WriteErrorPieces a count) s {e = e} {e' = e'} alike did did' =
 -- the calls of environments over known bytes are determined
 pub determined : IsDeterminedBy Records AlikeRecordings
 determined = record {
-  reflexive = λ e. record { inputs = refl; outputs = (refl, refl); error_outputs = (refl, refl); heap = refl; unserved = refl; held = refl };
+  reflexive = λ e. record { inputs = refl; outputs = (refl, refl); error_outputs = (refl, refl); heap = refl; unserved = refl; random = refl; held = refl };
   determined = λ e e' d d' s t t' xs xs' end end' alike served served'.
       let asked = asks_one s served.asks served'.asks in
       let does = subst (λ r. Does GivesInput TakesOutput TakesOutput TellsKnown r e s d t xs end) asked served.does in

@@ -4,6 +4,8 @@ pub mod Requests
 pub mod BufferedBytes
 pub mod Transfers
 pub mod Giving
+pub mod Random
+pub mod Names
 pub mod Statuses
 pub mod Vectors
 pub mod Clocks

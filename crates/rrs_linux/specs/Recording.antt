@@ -89,7 +89,7 @@ AlikeInputs a b = a.now ≡ b.now
 abbrev pub AlikeRecords : Vec ℕ Global → Vec ℕ Global → Type 0
 AlikeRecords a b = (a.items ≡ b.items) × (vec_capacity a ≡ vec_capacity b)
 
--- environments with such an input and such records, with one heap, and with the same numbers of
--- calls that there are not
+-- environments with such an input and such records, with one heap, with the same numbers of calls
+-- that there are not, and with one state of the pseudo-random numbers
 abbrev pub AlikeRecordings : Recording → Recording → Type 0
 AlikeRecordings = AreAlike AlikeInputs AlikeRecords AlikeRecords

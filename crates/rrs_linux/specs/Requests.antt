@@ -2,16 +2,17 @@
 -- number, a0 to a5 the arguments, and a0 takes the answer; the numbers are those of
 -- asm-generic/unistd.h). Registers go by their numbers: a0 is x10, and a7 is x17.
 --
--- Four choices are made here. Only the descriptors 0, 1 and 2 are open, 0 to read and the others
--- to write, each as a pipe is: it has no position, and is no terminal. close answers that it was
--- done, and they stay open. The process is number 1. fstat, newfstatat and lseek, which Linux has
--- in another form for 32 bits, take what a C library passes: three words to lseek, and a struct
--- stat64. So does gettimeofday, which it has not: its second argument is not looked at. Each other
--- call is one that there is not.
+-- Six choices are made here. Only the descriptors 0, 1 and 2 are open, 0 to read and the others to
+-- write, each as a pipe is: it has no position, and is no terminal. close answers that it was done,
+-- and they stay open. The process is number 1. Its user and its group are number 1000. fstat,
+-- newfstatat and lseek, which Linux has in another form for 32 bits, take what a C library passes:
+-- three words to lseek, and a struct stat64. So does gettimeofday, which it has not: its second
+-- argument is not looked at. The bytes of getrandom are pseudo-random, by a seed (Random.antt). Each
+-- other call is one that there is not.
 use Rattle.std.specs.Prelude.{◌≡◌, ◌≢◌, ◌⊎◌, ℕ, ◌-◌, ◌%◌, ◌^◌, ◌<◌, ◌≤◌, ◌==◌, ◌&&◌, nat_lt, not, bit_and, Bool, true, false}
 use Rattle.rrs_linux.specs.declared.clocks.TimeForm.TheVariants.{Timespec, Timeval}
 use Rattle.rrs_linux.specs.declared.requests.Request.{Request}
-use Rattle.rrs_linux.specs.declared.requests.Request.TheVariants.{Exit, Answer, NoCall, Status, NamedStatus, ExtendedStatus, Time, SetBreak, Read, WriteOutput, WriteErrors, WriteOutputPieces, WriteErrorPieces}
+use Rattle.rrs_linux.specs.declared.requests.Request.TheVariants.{Exit, Answer, NoCall, Status, NamedStatus, ExtendedStatus, Time, SetBreak, Names, Random, Read, WriteOutput, WriteErrors, WriteOutputPieces, WriteErrorPieces}
 use Rattle.rrs_lib.specs.Machine.{State, reg}
 
 -- the word that answers error n: -n
@@ -40,17 +41,28 @@ abbrev pub are_statx_flags : (flags mask : ℕ) → Bool
 are_statx_flags flags mask =
     are_flags flags && not (bit_and flags 0x6000 == 0x6000) && nat_lt mask (2 ^ 31)
 
--- flags that newfstatat or statx doesn't take
+-- What getrandom takes (getrandom(2)): GRND_NONBLOCK 1, GRND_RANDOM 2 and GRND_INSECURE 4, but not
+-- both of the last.
+abbrev pub are_random_flags : ℕ → Bool
+are_random_flags flags = nat_lt flags 8 && not (bit_and flags 6 == 6)
+
+-- flags that newfstatat, statx or getrandom doesn't take
 abbrev pub HasBadFlags : (call a2 a3 : ℕ) → Type 0
 HasBadFlags call a2 a3 =
     ((call ≡ 79) × (are_flags a3 ≡ false)) ⊎ ((call ≡ 291) × (are_statx_flags a2 a3 ≡ false))
+    ⊎ ((call ≡ 278) × (are_random_flags a2 ≡ false))
+
+-- getuid, geteuid, getgid and getegid
+abbrev pub IsOfUser : ℕ → Type 0
+IsOfUser call = (call ≡ 174) ⊎ (call ≡ 175) ⊎ (call ≡ 176) ⊎ (call ≡ 177)
 
 -- none of the calls that there are
 abbrev pub IsNoCall : ℕ → Type 0
 IsNoCall call =
     (call ≢ 57) × (call ≢ 63) × (call ≢ 64) × (call ≢ 93) × (call ≢ 94) × (call ≢ 214)
     × (call ≢ 29) × (call ≢ 62) × (call ≢ 80) × (call ≢ 172) × (call ≢ 66) × (call ≢ 79)
-    × (call ≢ 291) × (call ≢ 403) × (call ≢ 169)
+    × (call ≢ 291) × (call ≢ 403) × (call ≢ 169) × (call ≢ 160) × (call ≢ 278)
+    × (IsOfUser call → ⊥)
 
 -- what a call with this number and these arguments asks for
 pub data AsksBy (call a0 a1 a2 a3 a4 : ℕ) (request : Request) : Type 0 where
@@ -100,8 +112,15 @@ pub data AsksBy (call a0 a1 a2 a3 a4 : ℕ) (request : Request) : Type 0 where
   ToGetTimeOfDay :
       call ≡ 169 → request ≡ Time 0 Timeval a0
       → AsksBy call a0 a1 a2 a3 a4 request
+  -- uname
+  ToGetNames : call ≡ 160 → request ≡ Names a0 → AsksBy call a0 a1 a2 a3 a4 request
+  -- getrandom
+  ToGetRandom :
+      call ≡ 278 → are_random_flags a2 ≡ true → request ≡ Random a0 a1
+      → AsksBy call a0 a1 a2 a3 a4 request
   -- getpid
   ToGetNumber : call ≡ 172 → request ≡ Answer 1 → AsksBy call a0 a1 a2 a3 a4 request
+  ToGetUser : IsOfUser call → request ≡ Answer 1000 → AsksBy call a0 a1 a2 a3 a4 request
   -- EBADF is 9
   OfNoFile :
       HasBadDescriptor call a0 → request ≡ Answer (error 9)

@@ -10,11 +10,13 @@ use Rattle.rrs_linux.specs.declared.Process.{Process}
 use Rattle.rrs_linux.specs.declared.host_writer.HostWriter.{HostWriter}
 use Rattle.rrs_linux.specs.declared.host_side.HostSide.{HostSide}
 use Rattle.rrs_linux.specs.declared.requests.Request.{Request}
-use Rattle.rrs_linux.specs.declared.requests.Request.TheVariants.{Exit, Answer, NoCall, Status, NamedStatus, ExtendedStatus, Time, SetBreak, Read, WriteOutput, WriteErrors, WriteOutputPieces, WriteErrorPieces}
+use Rattle.rrs_linux.specs.declared.requests.Request.TheVariants.{Exit, Answer, NoCall, Status, NamedStatus, ExtendedStatus, Time, SetBreak, Names, Random, Read, WriteOutput, WriteErrors, WriteOutputPieces, WriteErrorPieces}
 use Rattle.rrs_linux.specs.Requests.{Asks, error}
 use Rattle.rrs_linux.specs.BufferedBytes.{buffered_bytes}
 use Rattle.rrs_linux.specs.Clocks.{Tells, TellsTime, PutsTime, form_of}
 use Rattle.rrs_linux.specs.Giving.{GivesText}
+use Rattle.rrs_linux.specs.Names.{system_names}
+use Rattle.rrs_linux.specs.Random.{random_bytes, state_after}
 use Rattle.rrs_linux.specs.Statuses.{PutsBytes, PutsNamed, stream_status, extended_status}
 use Rattle.rrs_linux.specs.Transfers.{Gives, Takes, WritesText, ReadsText}
 use Rattle.rrs_linux.specs.Vectors.{WritesVector}
@@ -49,7 +51,8 @@ noted_break heap numbers address =
     if nat_lt heap.end address then noted numbers 214 else numbers
 
 -- By which streams are alike: environments are alike that have such streams, one heap, the same
--- numbers of calls that there are not, and the same kept of the input.
+-- numbers of calls that there are not, one state of the pseudo-random numbers, and the same kept of
+-- the input.
 pub record AreAlike {R W E K : Type 0} (input : R → R → Type 0) (output : W → W → Type 0)
     (errors : E → E → Type 0) (d e : Process R W E K) : Type 0 where
   pub inputs : input d.input e.input
@@ -57,6 +60,7 @@ pub record AreAlike {R W E K : Type 0} (input : R → R → Type 0) (output : W 
   pub error_outputs : errors d.errors e.errors
   pub heap : d.heap ≡ e.heap
   pub unserved : d.unserved ≡ e.unserved
+  pub random : d.random ≡ e.random
   pub held : d.held ≡ e.held
 
 -- By what the streams do with the bytes of a buffer, and by what the clocks tell:
@@ -98,6 +102,17 @@ module _ {R W E K : Type 0} (gives : Gives R K) (takes : Takes W) (takes_errors 
         unserved = record { items = noted_break old.heap old.unserved.items address };
       })
       × (t ≡ answered s (moved old.heap address).top) × (accesses ≡ [])
+  Does (Names a) old s new t accesses end =
+      (end ≡ None) × (new ≡ old) × (bytes : ByteMap) × (answer : ℕ)
+      × PutsBytes s.writable s.bytes bytes a system_names accesses answer
+      × (t ≡ answered (record s { bytes = bytes }) answer)
+  -- 256 bytes at most are given, those of the next 32 numbers, and those not given are dropped
+  Does (Random a count) old s new t accesses end =
+      (end ≡ None) × (new ≡ record old { random = state_after old.random 32 })
+      × (bytes : ByteMap) × (dropped : List ℕ) × (answer : ℕ)
+      × GivesText s.writable s.bytes bytes a count (random_bytes old.random 32) dropped answer
+      accesses
+      × (t ≡ answered (record s { bytes = bytes }) answer)
   Does (Read a count) old s new t accesses end =
       (end ≡ None) × (input : R) × (held : K) × (bytes : ByteMap) × (answer : ℕ)
       × gives s.writable s.bytes bytes a count old.input old.held input held answer accesses

@@ -15,7 +15,9 @@ mod host;
 mod host_side;
 mod host_writer;
 mod input_buffer;
+mod names;
 mod pieces;
+mod random;
 mod recorder;
 mod requests;
 mod statuses;
@@ -30,6 +32,8 @@ ghost use Rattle.rrs_linux.specs.SystemCalls.{ServesBy, AreAlike, moved, answere
 use crate::clocks::put_time;
 use crate::host::NOBODY_READS;
 use crate::pieces::write_pieces;
+use crate::names::put_names;
+use crate::random::give_random;
 use crate::requests::{NO_SUCH_CALL, system_call_of};
 use crate::statuses::{put_extended_status, put_named_status, put_status};
 use crate::unserved::{keep_number, note_break};
@@ -101,6 +105,9 @@ pub struct Process<R, W, E, K> {
     /// which they were first made, and 16 at most. That of `brk` is among them where the program was
     /// refused memory.
     pub unserved: ArrayVec<u32, MOST_UNSERVED>,
+    /// The state of the pseudo-random numbers that `getrandom` gives: those of SplitMix64, of which
+    /// a call takes the next 32. They are the same in each run from one seed, and no keys.
+    pub random: u64,
     /// What is kept between two calls, which says of what kind the environment is: of a [Linux]
     /// what was read of its input and not given to the program yet, and its clocks.
     pub held: K,
@@ -111,14 +118,16 @@ pub struct Process<R, W, E, K> {
 pub type Linux<R, W, E> = Process<R, HostWriter<W>, HostWriter<E>, HostSide>;
 
 impl<R, W, E> Process<R, HostWriter<W>, HostWriter<E>, HostSide> {
-    /// An environment with these streams, this heap and these clocks, which holds nothing of the
-    /// input yet, and of which each call was served so far.
-    pub fn new(input: R, output: W, errors: E, heap: Heap, clocks: LinuxClocks) -> Self
+    /// An environment with these streams, this heap, these clocks, and this seed of its
+    /// pseudo-random numbers, which holds nothing of the input yet, and of which each call was
+    /// served so far.
+    pub fn new(input: R, output: W, errors: E, heap: Heap, clocks: LinuxClocks, random: u64) -> Self
         ensures input { result.input ≡ input }
         ensures output { result.output.stream ≡ output }
         ensures errors { result.errors.stream ≡ errors }
         ensures heap { result.heap ≡ heap }
         ensures unserved { result.unserved.items ≡ [] }
+        ensures random { result.random ≡ random }
         ensures held { buffered_bytes result.held.buffer ≡ [] }
         ensures clocks { result.held.clocks ≡ clocks }
     {
@@ -128,6 +137,7 @@ impl<R, W, E> Process<R, HostWriter<W>, HostWriter<E>, HostSide> {
             errors: HostWriter::new(errors),
             heap,
             unserved: ArrayVec::new(),
+            random,
             held: HostSide {
                 buffer: InputBuffer::new(),
                 clocks,
@@ -165,6 +175,10 @@ impl<R: Input<K>, W: Output, E: Output, K: Clocks> Environment for Process<R, W,
             Request::SetBreak(address) => {
                 note_break(self.heap, &mut self.unserved, address);
                 go_on(hart, self.heap.set_break(address))
+            }
+            Request::Names(address) => go_on(hart, put_names(mem, address)),
+            Request::Random(address, count) => {
+                go_on(hart, give_random(&mut self.random, mem, address, count))
             }
             Request::Read(address, count) => {
                 let answer = self.input.read_to(&mut self.held, mem, address, count);

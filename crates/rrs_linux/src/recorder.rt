@@ -43,8 +43,8 @@ pub type OutputRecorder<'a> = Process<&'a [u8], Vec<u8>, Vec<u8>, Known>;
 
 impl<'a> Process<&'a [u8], Vec<u8>, Vec<u8>, Known> {
     /// An environment with this input, with room for so many bytes of the output and of the errors
-    /// each, with this heap, and with clocks that stand at 0. Nothing is written yet, and each call
-    /// was served so far.
+    /// each, with this heap, with clocks that stand at 0, and with pseudo-random numbers whose seed
+    /// is 0. Nothing is written yet, and each call was served so far.
     ///
     /// # Errors
     ///
@@ -62,6 +62,7 @@ impl<'a> Process<&'a [u8], Vec<u8>, Vec<u8>, Known> {
             (vec_capacity made.output ≡ room) × (vec_capacity made.errors ≡ room)) }
         ensures heap { IfOk result (λ made. made.heap ≡ heap) }
         ensures unserved { IfOk result (λ made. made.unserved.items ≡ []) }
+        ensures random { IfOk result (λ made. made.random ≡ 0) }
         ensures clocks { IfOk result (λ made. made.held.clocks ≡ StoppedClocks.ZERO) }
     {
         Ok(Process {
@@ -70,6 +71,7 @@ impl<'a> Process<&'a [u8], Vec<u8>, Vec<u8>, Known> {
             errors: Vec::with_capacity(alloc, room)?,
             heap,
             unserved: ArrayVec::new(),
+            random: 0,
             held: Known {
                 clocks: StoppedClocks::ZERO,
             },
@@ -81,8 +83,8 @@ impl<'a> Process<&'a [u8], Vec<u8>, Vec<u8>, Known> {
 /// make the same accesses, leave one state, give one answer, and are alike again.
 ///
 /// They are alike if they have the same input left, the same output and errors, room for as many
-/// bytes, one heap, and the same numbers of calls that are not served. So each run over them is the
-/// only one (`only_alike` of `run_served`).
+/// bytes, one heap, the same numbers of calls that are not served, and one state of the
+/// pseudo-random numbers. So each run over them is the only one (`only_alike` of `run_served`).
 pub fn records_determined()
     ensures { IsDeterminedBy Records AlikeRecordings }
 {}

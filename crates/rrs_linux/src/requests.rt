@@ -2,7 +2,7 @@
 
 ghost use Rattle.std.specs.Prelude.{◌≡◌, ℕ, Bool, Option};
 ghost use Rattle.rrs_lib.specs.Machine.{state_of};
-ghost use Rattle.rrs_linux.specs.Requests.{Asks, AsksBy, are_flags, are_statx_flags};
+ghost use Rattle.rrs_linux.specs.Requests.{Asks, AsksBy, are_flags, are_random_flags, are_statx_flags};
 
 use crate::buffers::BAD_ARGUMENT;
 use crate::clocks::{REALTIME, TimeForm};
@@ -29,12 +29,24 @@ const FSTAT: u32 = 80;
 const EXIT: u32 = 93;
 /// `exit_group`.
 const EXIT_GROUP: u32 = 94;
+/// `uname`.
+const UNAME: u32 = 160;
 /// `gettimeofday`.
 const GETTIMEOFDAY: u32 = 169;
 /// `getpid`.
 const GETPID: u32 = 172;
+/// `getuid`.
+const GETUID: u32 = 174;
+/// `geteuid`.
+const GETEUID: u32 = 175;
+/// `getgid`.
+const GETGID: u32 = 176;
+/// `getegid`.
+const GETEGID: u32 = 177;
 /// The number of `brk`.
 pub const BRK: u32 = 214;
+/// `getrandom`.
+const GETRANDOM: u32 = 278;
 /// `statx`.
 const STATX: u32 = 291;
 /// `clock_gettime64`.
@@ -42,6 +54,8 @@ const CLOCK_GETTIME64: u32 = 403;
 
 /// The number of the process.
 const PROCESS_ID: u32 = 1;
+/// The number of its user, and that of its group.
+const USER_ID: u32 = 1000;
 /// The answer where a stream is no terminal: -25, `ENOTTY`.
 const NO_TERMINAL: u32 = 0xffff_ffe7;
 /// The answer where a stream has no position: -29, `ESPIPE`.
@@ -57,6 +71,9 @@ pub const NO_SUCH_CALL: u32 = 0xffff_ffda;
 const NO_FLAGS: u32 = 0xffff_86ff;
 /// The two flags of `AT_STATX_SYNC_TYPE`, of which a call has one at most.
 const SYNC_TYPE: u32 = 0x6000;
+
+/// The flags `GRND_RANDOM` and `GRND_INSECURE`, of which `getrandom` takes one at most.
+const RANDOM_SOURCE: u32 = 6;
 
 /// What a call asks for.
 #[derive(Clone, Copy, Debug, PartialEq)]
@@ -77,6 +94,10 @@ pub enum Request {
     Time(u32, TimeForm, u32),
     /// To move the break to an address.
     SetBreak(u32),
+    /// To put the names of the system at an address.
+    Names(u32),
+    /// To give pseudo-random bytes, to an address, so many at most.
+    Random(u32, u32),
     /// To read from standard input, to an address, so many bytes at most.
     Read(u32, u32),
     /// To write to standard output, from an address, so many bytes at most.
@@ -111,6 +132,7 @@ fn request_by(call: u32, first: u32, second: u32, third: u32, fourth: u32, fifth
         EXIT | EXIT_GROUP => Request::Exit(first % 256),
         BRK => Request::SetBreak(first),
         GETPID => Request::Answer(PROCESS_ID),
+        GETUID | GETEUID | GETGID | GETEGID => Request::Answer(USER_ID),
         CLOSE if first <= 2 => Request::Answer(0),
         FSTAT if first <= 2 => Request::Status(second),
         IOCTL if first <= 2 => Request::Answer(NO_TERMINAL),
@@ -129,7 +151,9 @@ fn request_by(call: u32, first: u32, second: u32, third: u32, fourth: u32, fifth
         }
         CLOCK_GETTIME64 if first <= 3 => Request::Time(first, TimeForm::Timespec, second),
         GETTIMEOFDAY => Request::Time(REALTIME, TimeForm::Timeval, first),
-        NEWFSTATAT | STATX | CLOCK_GETTIME64 => Request::Answer(BAD_ARGUMENT),
+        GETRANDOM if are_random_flags(third) => Request::Random(first, second),
+        UNAME => Request::Names(first),
+        NEWFSTATAT | STATX | CLOCK_GETTIME64 | GETRANDOM => Request::Answer(BAD_ARGUMENT),
         _ => Request::NoCall(call),
     }
 }
@@ -146,4 +170,11 @@ fn are_statx_flags(flags: u32, mask: u32) -> bool
     ensures { result ≡ are_statx_flags flags mask }
 {
     are_flags(flags) && flags & SYNC_TYPE != SYNC_TYPE && mask < 1 << 31
+}
+
+/// Whether `getrandom` takes these flags.
+fn are_random_flags(flags: u32) -> bool
+    ensures { result ≡ are_random_flags flags }
+{
+    flags < 8 && flags & RANDOM_SOURCE != RANDOM_SOURCE
 }

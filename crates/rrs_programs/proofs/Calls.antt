@@ -20,7 +20,7 @@ use Rattle.rrs_linux.specs.declared.host_writer.HostWriter.{HostWriter}
 use Rattle.rrs_linux.specs.declared.requests.Request.{Request}
 use Rattle.rrs_linux.specs.declared.requests.Request.TheVariants.{Exit, Read, WriteOutput}
 use Rattle.rrs_linux.specs.Clocks.{Tells}
-use Rattle.rrs_linux.specs.Requests.{Asks, error, AsksBy, TakesEach, ToExit, ToRead, ToWriteOutput, ToWriteErrors, ToSetBreak, ToClose, ToControl, ToSeek, ToGetStatus, ToGetNamed, ToGetExtended, ToWriteOutputPieces, ToWriteErrorPieces, ToGetTime, ToGetTimeOfDay, ToGetNumber, OfNoFile, OfNoFlags, OfNoClock, OfNoCall}
+use Rattle.rrs_linux.specs.Requests.{Asks, error, AsksBy, TakesEach, ToExit, ToRead, ToWriteOutput, ToWriteErrors, ToSetBreak, ToClose, ToControl, ToSeek, ToGetStatus, ToGetNamed, ToGetExtended, ToWriteOutputPieces, ToWriteErrorPieces, ToGetTime, ToGetTimeOfDay, ToGetNames, ToGetRandom, ToGetNumber, ToGetUser, OfNoFile, OfNoFlags, OfNoClock, OfNoCall}
 use Rattle.rrs_linux.specs.SystemCalls.{Does, ServesBy, WritesOutput, ended_by}
 use Rattle.rrs_linux.specs.Transfers
 use Rattle.rrs_linux.specs.Transfers.{Gives, Takes, Stands, WriteEnds, counted, most_bytes}
@@ -68,8 +68,14 @@ asked (ToGetNamed c known is) = none_of (λ e. omega arith) (λ e f. omega arith
 asked (ToGetExtended c known is) = none_of (λ e. omega arith) (λ e f. omega arith) (λ e f. omega arith)
 asked (ToGetTime c known is) = none_of (λ e. omega arith) (λ e f. omega arith) (λ e f. omega arith)
 asked (ToGetTimeOfDay c is) = none_of (λ e. omega arith) (λ e f. omega arith) (λ e f. omega arith)
+asked (ToGetNames c is) = none_of (λ e. omega arith) (λ e f. omega arith) (λ e f. omega arith)
+asked (ToGetRandom c known is) = none_of (λ e. omega arith) (λ e f. omega arith) (λ e f. omega arith)
 asked (OfNoClock c past is) = none_of (λ e. omega arith) (λ e f. omega arith) (λ e f. omega arith)
 asked (ToGetNumber c is) = none_of (λ e. omega arith) (λ e f. omega arith) (λ e f. omega arith)
+asked (ToGetUser (inl c) is) = none_of (λ e. omega (arith, c)) (λ e f. omega (arith, c)) (λ e f. omega (arith, c))
+asked (ToGetUser (inr (inl c)) is) = none_of (λ e. omega (arith, c)) (λ e f. omega (arith, c)) (λ e f. omega (arith, c))
+asked (ToGetUser (inr (inr (inl c))) is) = none_of (λ e. omega (arith, c)) (λ e f. omega (arith, c)) (λ e f. omega (arith, c))
+asked (ToGetUser (inr (inr (inr c))) is) = none_of (λ e. omega (arith, c)) (λ e f. omega (arith, c)) (λ e f. omega (arith, c))
 asked (OfNoFile (inl each) is) = none_of_each each.0
 asked (OfNoFile (inr (inl read)) is) =
     let c = read.0 in none_of (λ e. omega (arith, c)) (λ e f. read.1 f) (λ e f. omega (arith, c))
@@ -79,7 +85,9 @@ asked (OfNoFile (inr (inr (inr c, no_output, no_errors))) is) =
     none_of (λ e. omega (arith, c)) (λ e f. omega (arith, c)) (λ e f. omega (arith, c))
 asked (OfNoFlags (inl flags) is) =
     let c = flags.0 in none_of (λ e. omega (arith, c)) (λ e f. omega (arith, c)) (λ e f. omega (arith, c))
-asked (OfNoFlags (inr flags) is) =
+asked (OfNoFlags (inr (inl flags)) is) =
+    let c = flags.0 in none_of (λ e. omega (arith, c)) (λ e f. omega (arith, c)) (λ e f. omega (arith, c))
+asked (OfNoFlags (inr (inr flags)) is) =
     let c = flags.0 in none_of (λ e. omega (arith, c)) (λ e f. omega (arith, c)) (λ e f. omega (arith, c))
 asked (OfNoCall none is) = none_of (λ e. none.3 e) (λ e f. none.1 e) (λ e f. none.2 e)
 

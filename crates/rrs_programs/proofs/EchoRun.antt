@@ -53,6 +53,7 @@ pub record Echoes (k b size : ℕ) (old : Recording) (bytes : ByteMap) (new : Re
   pub input : new.input.now ≡ []
   pub errors_kept : new.errors ≡ old.errors
   pub heap_kept : new.heap ≡ old.heap
+  pub random_kept : new.random ≡ old.random
   pub others_kept : (a : ℕ) → (a < b) ⊎ (b + size ≤ a) → t.bytes a ≡ bytes a
 
 -- after a part of a buffer
@@ -227,6 +228,7 @@ module _ (r : ℕ → ℕ) (writable : ℕ → Bool) (p b size : ℕ) (aligned :
           input = ap (λ e. e.input.now) exit.same ∙ no_length read.after.input.now (omega (arith, left, no_input));
           errors_kept = ap (λ e. e.errors) (exit.same ∙ read.others);
           heap_kept = ap (λ e. e.heap) (exit.same ∙ read.others);
+          random_kept = ap (λ e. e.random) (exit.same ∙ read.others);
           others_kept = λ a outside. ap (λ y. y.bytes a) exit.stays ∙ read.kept a
               (behind a b (length read.text) size (omega (arith, none)) outside);
         }
@@ -279,6 +281,7 @@ module _ (r : ℕ → ℕ) (writable : ℕ → Bool) (p b size : ℕ) (aligned :
           input = last.input;
           errors_kept = last.errors_kept ∙ ap (λ y. y.errors) others ∙ ap (λ y. y.errors) read.others;
           heap_kept = last.heap_kept ∙ ap (λ y. y.heap) others ∙ ap (λ y. y.heap) read.others;
+          random_kept = last.random_kept ∙ ap (λ y. y.random) others ∙ ap (λ y. y.random) read.others;
           others_kept = λ a outside.
               last.others_kept a outside ∙ read.kept a (behind a b n size (omega (arith, read.long)) outside);
         }

@@ -55,6 +55,7 @@ pub fn echo<M: Memory>(
     ensures input { environment.new.input.now ≡ [] }
     ensures errors_kept { environment.new.errors ≡ environment.old.errors }
     ensures heap_kept { environment.new.heap ≡ environment.old.heap }
+    ensures random_kept { environment.new.random ≡ environment.old.random }
     ensures others_kept { (a : ℕ)
         → (a < reg (state_in M.bytes M.writable executor.old) 10)
         ⊎ (reg (state_in M.bytes M.writable executor.old) 10

@@ -52,6 +52,7 @@ pub fn write_and_exit<M: Memory>(
     ensures input_kept { environment.new.input ≡ environment.old.input }
     ensures errors_kept { environment.new.errors ≡ environment.old.errors }
     ensures heap_kept { environment.new.heap ≡ environment.old.heap }
+    ensures random_kept { environment.new.random ≡ environment.old.random }
     ensures bytes_kept { M.bytes executor.new.mem.now ≡ M.bytes executor.old.mem.now }
     ensures rest { KeepsTheRest M.layout executor.old executor.new }
 {
@@ -87,6 +88,7 @@ pub fn write_and_exit_over<M: Memory, R: Read, W: Write, E: Write>(
     ensures held_kept { environment.new.held ≡ environment.old.held }
     ensures errors_kept { environment.new.errors ≡ environment.old.errors }
     ensures heap_kept { environment.new.heap ≡ environment.old.heap }
+    ensures random_kept { environment.new.random ≡ environment.old.random }
     ensures bytes_kept { M.bytes executor.new.mem.now ≡ M.bytes executor.old.mem.now }
     ensures rest { KeepsTheRest M.layout executor.old executor.new }
 {

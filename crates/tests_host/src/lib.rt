@@ -25,6 +25,8 @@ mod independence;
 #[cfg(test)]
 mod machines;
 #[cfg(test)]
+mod names_and_numbers;
+#[cfg(test)]
 mod ports;
 #[cfg(test)]
 mod printing;

@@ -26,7 +26,7 @@ pub(crate) fn streams_of(
     clocks: LinuxClocks,
 ) -> Linux<&[u8], Vec<u8>, Vec<u8>> {
     let (output, errors) = (Vec::new(alloc), Vec::new(alloc));
-    Linux::new(input, output, errors, Heap::new(0, 0), clocks)
+    Linux::new(input, output, errors, Heap::new(0, 0), clocks, 0)
 }
 
 /// A space of two regions: one of so many bytes at 0, and one of four bytes at a base after it.

@@ -46,7 +46,7 @@ const ENOENT: u32 = 0xffff_fffe;
 
 const ENOTDIR: u32 = 0xffff_ffec;
 
-const EINVAL: u32 = 0xffff_ffea;
+pub(crate) const EINVAL: u32 = 0xffff_ffea;
 
 /// The answers -25 and -29.
 const ENOTTY: u32 = 0xffff_ffe7;
@@ -60,7 +60,7 @@ const EPIPE: u32 = 0xffff_ffe0;
 
 const EBADF: u32 = 0xffff_fff7;
 
-const EFAULT: u32 = 0xffff_fff2;
+pub(crate) const EFAULT: u32 = 0xffff_fff2;
 
 const ENOSPC: u32 = 0xffff_ffe4;
 
@@ -130,7 +130,7 @@ impl Read for Stream<'_> {
 }
 
 /// 75 words: the bytes at 0 to 299, of which the byte at `a` is `a` modulo 256.
-fn numbered(alloc: Global) -> Result<VecMemory, AllocError> {
+pub(crate) fn numbered(alloc: Global) -> Result<VecMemory, AllocError> {
     let mut words = Vec::new(alloc);
     for index in 0..75u32 {
         let low = index * 4 % 256;
@@ -140,10 +140,14 @@ fn numbered(alloc: Global) -> Result<VecMemory, AllocError> {
 }
 
 /// How a call ended, and what it answered.
-type Answered = (Option<u32>, u32);
+pub(crate) type Answered = (Option<u32>, u32);
 
 /// Serves a call with its number and five arguments.
-fn serve<E: Environment>(environment: &mut E, mem: &mut VecMemory, request: [u32; 6]) -> Answered {
+pub(crate) fn serve<E: Environment>(
+    environment: &mut E,
+    mem: &mut VecMemory,
+    request: [u32; 6],
+) -> Answered {
     let [number, first, second, third, fourth, fifth] = request;
     let mut hart = HartState::new();
     hart.registers[17] = number;
@@ -181,6 +185,7 @@ fn environment<'a>(alloc: Global, reads: &'a [Turn], writes: &'a [Turn]) -> Stre
         Stream::new(alloc, &[]),
         Heap::new(64, 96),
         LinuxClocks::Stopped(clocks),
+        0,
     )
 }
 
@@ -389,7 +394,7 @@ static SCENES: [Scene; 13] = [
         writes: &[],
         errors: [(34, 13), (0, 0)],
         is_broken: false,
-        unserved: &[81],
+        unserved: &[BRK, 81],
     },
     Scene {
         name: "calls that are not served",
@@ -507,7 +512,7 @@ static SCENES: [Scene; 13] = [
 ];
 
 /// The calls of the scenes.
-static CALLS: [Call; 118] = [
+static CALLS: [Call; 122] = [
     (0, [WRITE, 1, 0, 300], None, None, 300, (300, 0, 0)),
     (0, [WRITE, 2, 290, 20], None, None, 10, (300, 10, 0)),
     (0, [WRITE, 2, 44, 3], None, None, 3, (300, 13, 0)),
@@ -542,6 +547,10 @@ static CALLS: [Call; 118] = [
     (0, [IOCTL, 1, 0x5401, 0], None, None, ENOTTY, (300, 13, 0)),
     (0, [IOCTL, 3, 0x5401, 0], None, None, EBADF, (300, 13, 0)),
     (0, [GETPID, 0, 0, 0], None, None, 1, (300, 13, 0)),
+    (0, [174, 0, 0, 0], None, None, 1000, (300, 13, 0)),
+    (0, [175, 0, 0, 0], None, None, 1000, (300, 13, 0)),
+    (0, [176, 0, 0, 0], None, None, 1000, (300, 13, 0)),
+    (0, [177, 0, 0, 0], None, None, 1000, (300, 13, 0)),
     (0, [FSTAT, 3, 0, 0], None, None, EBADF, (300, 13, 0)),
     (0, [FSTAT, 1, 300, 0], None, None, EFAULT, (300, 13, 0)),
     (
@@ -853,7 +862,7 @@ fn calls_answer(rt: HostRuntime) -> Result<(), Fail> {
 
 /// Calls of a recorder, each with how it ends and its answer, and with what is left of the input
 /// and held of the output and of the errors after it.
-static RECORDED: [([u32; 4], Answered, (usize, usize, usize)); 25] = [
+static RECORDED: [([u32; 4], Answered, (usize, usize, usize)); 29] = [
     ([WRITE, 1, 0, 4], (None, 4), (3, 4, 0)),
     ([WRITE, 1, 4, 10], (None, 6), (3, 10, 0)),
     ([WRITE, 1, 10, 1], (None, ENOSPC), (3, 10, 0)),
@@ -878,6 +887,10 @@ static RECORDED: [([u32; 4], Answered, (usize, usize, usize)); 25] = [
     ([57, 3, 0, 0], (None, EBADF), (0, 10, 5)),
     ([LSEEK, 2, 0, 0], (None, ESPIPE), (0, 10, 5)),
     ([FSTAT, 1, 200, 0], (None, EFAULT), (0, 10, 5)),
+    ([278, 0, 5, 0], (None, 5), (0, 10, 5)),
+    ([278, 296, 5, 0], (None, 4), (0, 10, 5)),
+    ([278, 0, 5, 8], (None, EINVAL), (0, 10, 5)),
+    ([160, 0, 0, 0], (None, EFAULT), (0, 10, 5)),
     ([93, 0x107, 0, 0], (Some(7), 0x107), (0, 10, 5)),
 ];
 
@@ -917,7 +930,8 @@ impl<'a> Recording<'a> {
 fn are_alike(first: &OutputRecorder<'_>, second: &OutputRecorder<'_>) -> bool {
     let outputs = first.output.as_slice() == second.output.as_slice();
     let errors = first.errors.as_slice() == second.errors.as_slice();
-    outputs && errors && first.input == second.input && first.heap == second.heap
+    let machine = first.heap == second.heap && first.random == second.random;
+    outputs && errors && machine && first.input == second.input
 }
 
 /// The call of the table that two recorders do not answer as they have to. They are alike after

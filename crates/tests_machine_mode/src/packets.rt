@@ -123,8 +123,8 @@ pub(crate) fn wanted(alloc: Global, payloads: &str) -> Result<Vec<u8>, AllocErro
 }
 
 /// Sessions, and what they are answered. Each packet is in one of them, in a stream below, or in a
-/// session of gdb.
-const SESSIONS: [(&str, &str); 14] = [
+/// session of gdb. In one of them `getrandom` is called, taken back, and called again.
+const SESSIONS: [(&str, &str); 15] = [
     ("?|!|qC", "S05|+|OK|+|QC1"),
     (
         "qAttached|!|qAttached|qfThreadInfo|qsThreadInfo|Hg0|T1|vMustReplyEmpty|q|Q",
@@ -166,6 +166,10 @@ const SESSIONS: [(&str, &str); 14] = [
     (
         "s|s|qRcmd,7374657073|bs|qRcmd,7374657073|c|qRcmd,7374657073|Z4,40,4|bc|qRcmd,7374657073|z4,40,4|bc|qRcmd,7374657073",
         "S05|+|S05|+|73746570733a20320a|+|S05|+|73746570733a20310a|+|O64000000|S05|+|73746570733a2031340a|+|OK|+|T05awatch:40;|+|73746570733a20330a|+|OK|+|T05replaylog:begin;|+|73746570733a20300a",
+    ),
+    (
+        "P20=1c000000|P11=16010000|Pa=40000000|Pb=04000000|Pc=00000000|s|m40,4|pa|bs|m40,4|s|m40,4|P20=1c000000|Pa=40000000|s|m40,4",
+        "OK|+|OK|+|OK|+|OK|+|OK|+|S05|+|afcd1d7b|+|04000000|+|S05|+|41424344|+|S05|+|afcd1d7b|+|OK|+|OK|+|S05|+|b0ba6349",
     ),
     (
         "qXfer:exec-file:read:1:0,1|qXfer:exec-file:read:1:1,9|qXfer:features:read:a:0,9|qXfer:exec-file:read:1:9|vKill;1",

@@ -85,7 +85,7 @@ fn status_of(
             let clocks = LinuxClocks::Stopped(StoppedClocks::ZERO);
             run_rrs(
                 machine,
-                &mut Linux::new(b"".as_slice(), output, errors, heap, clocks),
+                &mut Linux::new(b"".as_slice(), output, errors, heap, clocks, 0),
                 report,
                 &mut NoProgress,
                 &CountsWords,

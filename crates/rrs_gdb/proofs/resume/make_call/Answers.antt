@@ -92,3 +92,8 @@ pub returns-in-Some-clause-counted : goal.returns-in-Some-clause-counted
 returns-in-Some-clause-counted g c = λ _ after.
     let e = c.args.environment.now in
     absurd (none_before _ _ (around c.stop_before.new.state e) _ c.in-Some.stop (c.in-Some.ensures.stop e) after)
+
+pub returns-in-Some-clause-noted : goal.returns-in-Some-clause-noted
+returns-in-Some-clause-noted g c = λ after.
+    let e = c.args.environment.now in
+    absurd (none_before _ _ (around c.stop_before.new.state e) _ c.in-Some.stop (c.in-Some.ensures.stop e) after)

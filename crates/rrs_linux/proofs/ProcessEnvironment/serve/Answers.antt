@@ -7,7 +7,7 @@ use Rattle.rrs_fast.specs.Serving.{MakesSome}
 use Rattle.rrs_lib.specs.declared.HartState.{HartState}
 use Rattle.rrs_linux.specs.declared.Process.{Process}
 use Rattle.rrs_linux.specs.declared.requests.Request.{Request}
-use Rattle.rrs_linux.specs.declared.requests.Request.TheVariants.{Exit, Answer, NoCall, Status, NamedStatus, ExtendedStatus, Time, SetBreak, Read, WriteOutput, WriteErrors, WriteOutputPieces, WriteErrorPieces}
+use Rattle.rrs_linux.specs.declared.requests.Request.TheVariants.{Exit, Answer, NoCall, Status, NamedStatus, ExtendedStatus, Time, SetBreak, Names, Random, Read, WriteOutput, WriteErrors, WriteOutputPieces, WriteErrorPieces}
 use Rattle.rrs_linux.specs.Clocks.{Tells}
 use Rattle.rrs_linux.specs.Requests.{Asks}
 use Rattle.rrs_linux.specs.SystemCalls.{Does, ServesBy, answered}
@@ -140,3 +140,29 @@ returns-in-Time-clause-served g c =
     served did.accesses (Time c.in-Time.clock c.in-Time.form c.in-Time.address) c.in-Time.ensures
     (went.goes_on, refl, c.tell.result, c.tell.ensures.told, _, call.result, did.these, went.answered _ _ ∙ kept)
     did.made
+
+pub returns-in-Names-clause-served : goal.returns-in-Names-clause-served
+returns-in-Names-clause-served g c =
+    let went = c.go_on-in-Names.ensures in
+    let call = c.put_names in
+    let did = call.ensures.put in
+    let kept = after c.args.executor.now.hart_state.now call.result refl call.ensures.writable_kept in
+    served did.accesses (Names c.in-Names.address) c.in-Names.ensures
+    (went.goes_on, refl, _, call.result, did.these, went.answered _ _ ∙ kept) did.made
+
+pub returns-in-Random-clause-served : goal.returns-in-Random-clause-served
+returns-in-Random-clause-served g c =
+    let went = c.go_on-in-Random.ensures in
+    let call = c.give_random in
+    let did = call.ensures.given.1 in
+    let process = c.args.self.now in
+    let kept = after c.args.executor.now.hart_state.now call.result refl call.ensures.writable_kept in
+    served did.accesses (Random c.in-Random.address c.in-Random.count) c.in-Random.ensures (
+      went.goes_on,
+      (λ i. record process { random = call.ensures.moved_on i }),
+      _,
+      call.ensures.given.0,
+      call.result,
+      did.these,
+      went.answered _ _ ∙ kept,
+    ) did.made

@@ -25,6 +25,7 @@ returns g c =
       input = run.input;
       errors_kept = run.errors_kept;
       heap_kept = run.heap_kept;
+      random_kept = run.random_kept;
       others_kept = run.others_kept;
       rest = c.run_served.ensures.rest;
     }

@@ -40,6 +40,7 @@ returns g c =
       input_kept = ap (λ e. e.input) run.left.1;
       errors_kept = ap (λ e. e.errors) run.left.1;
       heap_kept = ap (λ e. e.heap) run.left.1;
+      random_kept = ap (λ e. e.random) run.left.1;
       bytes_kept = run.bytes_kept;
       rest = c.run_served.ensures.rest;
     }

@@ -38,6 +38,7 @@ returns g c =
       held_kept = ap (λ e. e.held) run.left.1;
       errors_kept = ap (λ e. e.errors) run.left.1;
       heap_kept = ap (λ e. e.heap) run.left.1;
+      random_kept = ap (λ e. e.random) run.left.1;
       bytes_kept = run.bytes_kept;
       rest = c.run_served.ensures.rest;
     }
