@@ -32,9 +32,9 @@ one_layout start end wanted l m a b =
     (last, half-of _ _ _ _ _ _ 0 last heap a.half b.half)
 
 -- arguments that fit in the stack are not long
-pub not_long : (file : List ℕ) (arguments : List (List ℕ)) (wanted sp : ℕ) (l : Layout) → IsLayout (first_address file) (end_address file) wanted l
-    → sp ≡ stack_pointer l.end arguments → l.stack_start ≤ sp → AreLong file arguments wanted → ⊥
-not_long file arguments wanted sp l mine is on long =
+pub not_long : (file : List ℕ) (arguments variables : List (List ℕ)) (wanted sp : ℕ) (l : Layout) → IsLayout (first_address file) (end_address file) wanted l
+    → sp ≡ stack_pointer l.end arguments variables → l.stack_start ≤ sp → AreLong file arguments variables wanted → ⊥
+not_long file arguments variables wanted sp l mine is on long =
     let same = one_layout _ _ _ l long.0 mine long.1 in
     let there : sp < long.0.stack_start = rw (is, same.0) long.2 in
     omega (arith, there, same.1, on)

@@ -67,13 +67,13 @@ refusal_between start end wanted =
 abbrev pub memory_refusal : List ℕ → ℕ → Option ImageError
 memory_refusal file wanted = refusal_between (first_address file) (end_address file) wanted
 
--- The arguments don't fit in the stack of the process.
-abbrev pub AreLong : List ℕ → List (List ℕ) → ℕ → Type 0
-AreLong file arguments wanted = (l : Layout)
+-- The arguments and the environment's strings don't fit in the stack of the process.
+abbrev pub AreLong : List ℕ → List (List ℕ) → List (List ℕ) → ℕ → Type 0
+AreLong file arguments variables wanted = (l : Layout)
     × IsLayout (first_address file) (end_address file) wanted l
-    × (stack_pointer l.end arguments < l.stack_start)
+    × (stack_pointer l.end arguments variables < l.stack_start)
 
--- another reason: its arguments, or the memory of the host
+-- another reason: its arguments and environment, or the memory of the host
 abbrev pub IsOtherReason : ImageError → Type 0
 IsOtherReason error = (error ≡ LongArguments) ⊎ (error ≡ OutOfMemory)
 
@@ -137,9 +137,10 @@ headers_of file = record {
 
 -- ---- the whole
 
--- this is what it starts from with these arguments, where so many bytes of memory are wanted
-pub record IsImage (file : List ℕ) (arguments : List (List ℕ)) (wanted : ℕ) (image : Image)
-    : Type 0 where
+-- This is what it starts from with these arguments and the environment's strings, where so many
+-- bytes of memory are wanted.
+pub record IsImage (file : List ℕ) (arguments variables : List (List ℕ)) (wanted : ℕ)
+    (image : Image) : Type 0 where
   -- the program has addresses from start to before end, and the memory is laid out around it
   pub start : ℕ
   pub end : ℕ
@@ -149,11 +150,12 @@ pub record IsImage (file : List ℕ) (arguments : List (List ℕ)) (wanted : ℕ
   pub laid_out : IsLayout start end wanted image.layout
   pub entry_is : image.entry ≡ e_entry file
   -- sp, a multiple of 16 in the stack, and what lies there
-  pub pointer : image.stack_pointer ≡ stack_pointer image.layout.end arguments
+  pub pointer : image.stack_pointer ≡ stack_pointer image.layout.end arguments variables
   pub aligned : image.stack_pointer % 16 ≡ 0
   pub on_stack : image.layout.stack_start ≤ image.stack_pointer
-  pub fits : image.stack_pointer + stack_bytes arguments ≤ image.layout.end
-  pub stack_is : image.stack.items ≡ stack_block image.stack_pointer arguments (headers_of file)
+  pub fits : image.stack_pointer + stack_bytes arguments variables ≤ image.layout.end
+  pub stack_is : image.stack.items
+      ≡ stack_block image.stack_pointer arguments variables (headers_of file)
   -- the marks of its pages
   pub marked : IsMarkedBy (ranges_of file image.layout) (image.layout.end / 4096) image.marks.items
 

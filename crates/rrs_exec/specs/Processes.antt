@@ -36,10 +36,10 @@ heap_of image = record {
 -- A process is loaded and has made no step: a file is an executable, an image is one of it, and its
 -- segments and its stack stand in a memory that is writable from the first address to the end, and
 -- that is 0 elsewhere.
-pub record IsLoaded (file : List ℕ) (arguments : List (List ℕ)) (wanted : ℕ) (image : Image)
-    (bytes : ByteMap) (writable : ℕ → Bool) : Type 0 where
+pub record IsLoaded (file : List ℕ) (arguments variables : List (List ℕ)) (wanted : ℕ)
+    (image : Image) (bytes : ByteMap) (writable : ℕ → Bool) : Type 0 where
   pub executable : IsExecutable file
-  pub is_image : IsImage file arguments wanted image
+  pub is_image : IsImage file arguments variables wanted image
   pub long : writable ≡ lies_between image.layout.base image.layout.end
   pub filled : Filled file image.stack_pointer image.stack.items
       (zeros_between image.layout.base image.layout.end) bytes
@@ -71,11 +71,11 @@ module _ {R W E : Type 0} (Runs : Chain (Process R (HostWriter W) (HostWriter E)
   -- of its pages and its system calls are served, and this is how that ends: after so many steps,
   -- at this pc. So what the environment's writers hold then is what they held, and what each write
   -- wrote, in order; and what its reader gave, the calls that read gave to the program.
-  pub record RunsProcess (file : List ℕ) (arguments : List (List ℕ)) (wanted limit : ℕ)
+  pub record RunsProcess (file : List ℕ) (arguments variables : List (List ℕ)) (wanted limit : ℕ)
       (old new : Process R (HostWriter W) (HostWriter E) HostSide)
       (steps pc : ℕ) (ending : Ending) : Type 0 where
     pub image : Image
     pub bytes : ByteMap
     pub writable : ℕ → Bool
-    pub loaded : IsLoaded file arguments wanted image bytes writable
+    pub loaded : IsLoaded file arguments variables wanted image bytes writable
     pub runs : RunsImage image bytes writable limit old new steps pc ending

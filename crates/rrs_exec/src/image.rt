@@ -27,7 +27,7 @@ pub enum ImageError {
     /// The program needs so many bytes of memory, and fewer are wanted: those of the pages from its
     /// first address to its last, and 1 MiB for its heap and its stack.
     NeedsMemory(u64),
-    /// The arguments don't fit in the stack.
+    /// The arguments and the environment don't fit in the stack.
     LongArguments,
     /// The memory refused the byte for this address.
     Refused(u32),
@@ -255,25 +255,33 @@ fn laid_out(bounds: (u32, u64), wanted: u64) -> Result<Layout, ImageError>
 /// # Errors
 ///
 /// `ImageError::LongArguments`.
-fn pointer_of(layout: &Layout, arguments: &[String]) -> Result<u32, ImageError>
+fn pointer_of(
+    layout: &Layout,
+    arguments: &[String],
+    variables: &[String],
+) -> Result<u32, ImageError>
     ensures pointer { IfOk result (λ sp.
-        sp ≡ stack_pointer layout.now.end (map string_bytes arguments.now)) }
+        sp ≡ stack_pointer layout.now.end (map string_bytes arguments.now)
+        (map string_bytes variables.now)) }
     ensures fits { IfOk result (λ sp.
-        sp + stack_bytes (map string_bytes arguments.now) ≤ layout.now.end) }
+        sp + stack_bytes (map string_bytes arguments.now) (map string_bytes variables.now)
+        ≤ layout.now.end) }
     ensures on_stack { IfOk result (λ sp. layout.now.stack_start ≤ sp) }
     ensures aligned { IfOk result (λ sp. sp % 16 ≡ 0) }
     ensures refused { IfErr result (λ error. error ≡ ImageError.LongArguments) }
     ensures long { 0 < layout.now.stack_start → IfErr result (λ error.
-        stack_pointer layout.now.end (map string_bytes arguments.now) < layout.now.stack_start) }
+        stack_pointer layout.now.end (map string_bytes arguments.now)
+        (map string_bytes variables.now) < layout.now.stack_start) }
 {
-    match stack_pointer(layout.end, arguments) {
+    match stack_pointer(layout.end, arguments, variables) {
         Some(sp) if sp >= layout.stack_start => Ok(sp),
         _ => Err(ImageError::LongArguments),
     }
 }
 
 /// What a process starts from that runs an executable with these arguments, of which the first is
-/// the program's name, with so many bytes of memory.
+/// the program's name, and these environment variables, as `NAME=VALUE`, with so many bytes of
+/// memory.
 ///
 /// # Errors
 ///
@@ -283,21 +291,26 @@ pub fn image_of(
     alloc: Global,
     executable: &Executable<'_>,
     arguments: &[String],
+    variables: &[String],
     wanted: u64,
 ) -> Result<Image, ImageError>
     ensures image { IfOk result
-        (IsImage executable.now.file.now (map string_bytes arguments.now) wanted) }
+        (IsImage executable.now.file.now (map string_bytes arguments.now)
+        (map string_bytes variables.now) wanted) }
     ensures refused { MatchOption (memory_refusal executable.now.file.now wanted)
         (IfErr result IsOtherReason) (λ error. result ≡ Err error) }
     ensures long { memory_refusal executable.now.file.now wanted ≡ None
-        → AreLong executable.now.file.now (map string_bytes arguments.now) wanted
+        → AreLong executable.now.file.now (map string_bytes arguments.now)
+        (map string_bytes variables.now) wanted
         → result ≡ Err ImageError.LongArguments }
     ensures short { result ≡ Err ImageError.LongArguments
-        → AreLong executable.now.file.now (map string_bytes arguments.now) wanted }
+        → AreLong executable.now.file.now (map string_bytes arguments.now)
+        (map string_bytes variables.now) wanted }
 {
     let layout = laid_out(bounds_of(executable), wanted)?;
-    let sp = pointer_of(&layout, arguments)?;
-    let Ok(stack) = initial_stack(alloc, arguments, headers_of(executable), sp) else {
+    let sp = pointer_of(&layout, arguments, variables)?;
+    let headers = headers_of(executable);
+    let Ok(stack) = initial_stack(alloc, arguments, variables, headers, sp) else {
         return Err(ImageError::OutOfMemory);
     };
     let Ok(ranges) = ranges_of(alloc, executable, &layout) else {

@@ -1,12 +1,12 @@
 //! Runs of executables as processes of Linux.
 //!
 //! What a program finds where it starts: a memory whose pages are mapped, read-only or writable,
-//! and a stack with its arguments. [ProcessMemory] is 0 until it is written, and takes no memory of
-//! the host until then. [ProtectedMemory] is one under marks, one a page. [initial_stack] makes the
-//! block of bytes that lies at the stack pointer, and [stack_pointer] says where that is. [image_of]
-//! puts these together for an executable, and [fill] writes them into a memory. What they are is
-//! written in `specs/Protection.antt`, `specs/InitialStack.antt`, `specs/Layouts.antt` and
-//! `specs/Images.antt`.
+//! and a stack with its arguments and environment variables. [ProcessMemory] is 0 until it is
+//! written, and takes no memory of the host until then. [ProtectedMemory] is one under marks, one a
+//! page. [initial_stack] makes the block of bytes that lies at the stack pointer, and
+//! [stack_pointer] says where that is. [image_of] puts these together for an executable, and [fill]
+//! writes them into a memory. What they are is written in `specs/Protection.antt`,
+//! `specs/InitialStack.antt`, `specs/Layouts.antt` and `specs/Images.antt`.
 //!
 //! [load_process] makes a process of the bytes of an ELF file: its image, and its memory.
 //! [execute_process] runs it and serves its system calls. What that is, is written in

@@ -68,23 +68,25 @@ pub struct LoadedProcess {
     pub memory: ProcessMemory,
 }
 
-/// Loads a file's bytes as an executable with these arguments, of which the first is its name, in a
-/// memory of at most so many bytes.
+/// Loads a file's bytes as an executable with these arguments, of which the first is its name, and
+/// these environment variables, as `NAME=VALUE`, in a memory of at most so many bytes.
 ///
 /// # Errors
 ///
 /// `ImageError`, where the file is no executable or can't be made a process. A file that is no
 /// executable is refused for the first of the reasons in their order (`refused`). An executable
 /// that needs more bytes than are wanted, or leaves no room for a heap and a stack, is refused so
-/// before memory is taken for it (`ceiling`), and then arguments that don't fit in its stack
-/// (`long`). Any other error is that the host is out of memory (`otherwise`).
+/// before memory is taken for it (`ceiling`), and then arguments and variables that don't fit in
+/// its stack (`long`). Any other error is that the host is out of memory (`otherwise`).
 pub fn load_process(
     alloc: Global,
     file: &[u8],
     arguments: &[String],
+    variables: &[String],
     wanted: u64,
 ) -> Result<LoadedProcess, ImageError>
-    ensures loaded { IfOk result (λ process. IsLoaded file.now (map string_bytes arguments.now)
+    ensures loaded { IfOk result (λ process. IsLoaded file.now
+        (map string_bytes arguments.now) (map string_bytes variables.now)
         wanted process.image (process_bytes process.memory)
         (process_writable process.memory)) }
     ensures ceiling { IsExecutable file.now
@@ -92,17 +94,18 @@ pub fn load_process(
     ensures refused { (refusal : ElfError) → first_refusal (checks file.now) ≡ Err refusal
         → IfErr result (λ error. error ≡ ImageError.Elf refusal) }
     ensures long { IsExecutable file.now → memory_refusal file.now wanted ≡ None
-        → AreLong file.now (map string_bytes arguments.now) wanted
+        → AreLong file.now (map string_bytes arguments.now) (map string_bytes variables.now) wanted
         → result ≡ Err ImageError.LongArguments }
     ensures otherwise { IsExecutable file.now → memory_refusal file.now wanted ≡ None
-        → (AreLong file.now (map string_bytes arguments.now) wanted → ⊥)
+        → (AreLong file.now (map string_bytes arguments.now)
+        (map string_bytes variables.now) wanted → ⊥)
         → IfErr result (λ error. error ≡ ImageError.OutOfMemory) }
 {
     let executable = match Executable::parse(file) {
         Ok(executable) => executable,
         Err(error) => return Err(ImageError::Elf(error)),
     };
-    let image = image_of(alloc, &executable, arguments, wanted)?;
+    let image = image_of(alloc, &executable, arguments, variables, wanted)?;
     let mut memory = match ProcessMemory::new(alloc, &image.layout) {
         Ok(memory) => memory,
         Err(_) => return Err(ImageError::OutOfMemory),
@@ -111,11 +114,12 @@ pub fn load_process(
     Ok(LoadedProcess { image, memory })
 }
 
-/// Runs a file's bytes as an executable with these arguments, of which the first is its name, in a
-/// memory of so many bytes, and serves its system calls, for `limit` steps or until it ends
-/// or raises an exception that is not [mended](crate::mend). Its break begins after its segments,
-/// and the heap of the environment is set so. The end has the steps that were made and the pc after
-/// them. The progress is told of its steps, and of its end.
+/// Runs a file's bytes as an executable with these arguments, of which the first is its name, and
+/// these environment variables, as `NAME=VALUE`, in a memory of so many bytes, and serves its system
+/// calls, for `limit` steps or until it ends or raises an exception that is not
+/// [mended](crate::mend). Its break begins after its segments, and the heap of the environment is set
+/// so. The end has the steps that were made and the pc after them. The progress is told of its
+/// steps, and of its end.
 ///
 /// # Errors
 ///
@@ -124,6 +128,7 @@ pub fn execute_process<R: Read, W: Write, E: Write, P: Progress>(
     alloc: Global,
     file: &[u8],
     arguments: &[String],
+    variables: &[String],
     wanted: u64,
     limit: u64,
     strict: bool,
@@ -132,7 +137,7 @@ pub fn execute_process<R: Read, W: Write, E: Write, P: Progress>(
 ) -> Result<ProcessEnd, ImageError>
     ensures executed { IfOk result (λ end. RunsProcess
         (Mending (Serves R.remaining W.contents E.contents) strict)
-        file.now (map string_bytes arguments.now) wanted limit
+        file.now (map string_bytes arguments.now) (map string_bytes variables.now) wanted limit
         environment.old environment.new end.steps end.pc end.ending) }
     ensures ceiling { IsExecutable file.now
         → IfSome (memory_refusal file.now wanted) (λ error. result ≡ Err error) }
@@ -140,13 +145,14 @@ pub fn execute_process<R: Read, W: Write, E: Write, P: Progress>(
     ensures refused { (refusal : ElfError) → first_refusal (checks file.now) ≡ Err refusal
         → IfErr result (λ error. error ≡ ImageError.Elf refusal) }
     ensures long { IsExecutable file.now → memory_refusal file.now wanted ≡ None
-        → AreLong file.now (map string_bytes arguments.now) wanted
+        → AreLong file.now (map string_bytes arguments.now) (map string_bytes variables.now) wanted
         → result ≡ Err ImageError.LongArguments }
     ensures otherwise { IsExecutable file.now → memory_refusal file.now wanted ≡ None
-        → (AreLong file.now (map string_bytes arguments.now) wanted → ⊥)
+        → (AreLong file.now (map string_bytes arguments.now)
+        (map string_bytes variables.now) wanted → ⊥)
         → IfErr result (λ error. error ≡ ImageError.OutOfMemory) }
 {
-    let LoadedProcess { image, memory } = load_process(alloc, file, arguments, wanted)?;
+    let LoadedProcess { image, memory } = load_process(alloc, file, arguments, variables, wanted)?;
     Ok(run_image(image, memory, limit, strict, environment, progress))
 }
 

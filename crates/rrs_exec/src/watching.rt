@@ -233,6 +233,7 @@ pub fn watch_process<R: Read, W: Write, E: Write, V: Watcher, P: Progress>(
     alloc: Global,
     file: &[u8],
     arguments: &[String],
+    variables: &[String],
     wanted: u64,
     limit: u64,
     environment: &mut Linux<R, W, E>,
@@ -240,7 +241,8 @@ pub fn watch_process<R: Read, W: Write, E: Write, V: Watcher, P: Progress>(
     progress: &mut P,
 ) -> Result<ProcessEnd, ImageError>
     ensures watched { IfOk result (λ end. WatchesProcess R.remaining W.contents E.contents
-        V.sees V.wants file.now (map string_bytes arguments.now) wanted limit
+        V.sees V.wants file.now (map string_bytes arguments.now) (map string_bytes variables.now)
+        wanted limit
         environment.old environment.new watcher.old watcher.new
         end.steps end.pc end.ending) }
     ensures ceiling { IsExecutable file.now
@@ -250,12 +252,13 @@ pub fn watch_process<R: Read, W: Write, E: Write, V: Watcher, P: Progress>(
     ensures refused { (refusal : ElfError) → first_refusal (checks file.now) ≡ Err refusal
         → IfErr result (λ error. error ≡ ImageError.Elf refusal) }
     ensures long { IsExecutable file.now → memory_refusal file.now wanted ≡ None
-        → AreLong file.now (map string_bytes arguments.now) wanted
+        → AreLong file.now (map string_bytes arguments.now) (map string_bytes variables.now) wanted
         → result ≡ Err ImageError.LongArguments }
     ensures otherwise { IsExecutable file.now → memory_refusal file.now wanted ≡ None
-        → (AreLong file.now (map string_bytes arguments.now) wanted → ⊥)
+        → (AreLong file.now (map string_bytes arguments.now)
+        (map string_bytes variables.now) wanted → ⊥)
         → IfErr result (λ error. error ≡ ImageError.OutOfMemory) }
 {
-    let LoadedProcess { image, memory } = load_process(alloc, file, arguments, wanted)?;
+    let LoadedProcess { image, memory } = load_process(alloc, file, arguments, variables, wanted)?;
     Ok(watch_image(image, memory, limit, environment, watcher, progress))
 }

@@ -42,21 +42,21 @@ module _ {R W E F : Type 0} (remaining : R → Option (List ℕ)) (contents : W 
         image bytes writable limit first new steps pc ending
 
   -- A process is loaded, and runs so from its entry.
-  pub record RunsWithFiles (file : List ℕ) (arguments : List (List ℕ)) (wanted limit : ℕ)
+  pub record RunsWithFiles (file : List ℕ) (arguments variables : List (List ℕ)) (wanted limit : ℕ)
       (old new : WithFiles (Process R (HostWriter W) (HostWriter E) HostSide) F)
       (steps pc : ℕ) (ending : Ending) : Type 0 where
     pub image : Image
     pub bytes : ByteMap
     pub writable : ℕ → Bool
-    pub loaded : IsLoaded file arguments wanted image bytes writable
+    pub loaded : IsLoaded file arguments variables wanted image bytes writable
     pub runs : RunsImageWithFiles image bytes writable limit old new steps pc ending
 
   -- It runs so from a process and these files.
-  pub record RunsBelow (file : List ℕ) (arguments : List (List ℕ)) (wanted limit : ℕ)
+  pub record RunsBelow (file : List ℕ) (arguments variables : List (List ℕ)) (wanted limit : ℕ)
       (process : Process R (HostWriter W) (HostWriter E) HostSide) (files : Files F)
       (steps pc : ℕ) (ending : Ending) : Type 0 where
     pub old : WithFiles (Process R (HostWriter W) (HostWriter E) HostSide) F
     pub new : WithFiles (Process R (HostWriter W) (HostWriter E) HostSide) F
     pub begins : old.process.now ≡ process
     pub has : old.files ≡ files
-    pub runs : RunsWithFiles file arguments wanted limit old new steps pc ending
+    pub runs : RunsWithFiles file arguments variables wanted limit old new steps pc ending

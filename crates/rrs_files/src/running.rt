@@ -30,6 +30,7 @@ pub fn execute_with_files<R: Read, W: Write, E: Write, F: Folder, P: Progress>(
     alloc: Global,
     file: &[u8],
     arguments: &[String],
+    variables: &[String],
     wanted: u64,
     limit: u64,
     strict: bool,
@@ -37,7 +38,8 @@ pub fn execute_with_files<R: Read, W: Write, E: Write, F: Folder, P: Progress>(
     progress: &mut P,
 ) -> Result<ProcessEnd, ImageError>
     ensures executed { IfOk result (λ end. RunsWithFiles R.remaining W.contents E.contents F.did
-        strict file.now (map string_bytes arguments.now) wanted limit
+        strict file.now (map string_bytes arguments.now) (map string_bytes variables.now)
+        wanted limit
         environment.old environment.new end.steps end.pc end.ending) }
     ensures ceiling { IsExecutable file.now
         → IfSome (memory_refusal file.now wanted) (λ error. result ≡ Err error) }
@@ -45,13 +47,14 @@ pub fn execute_with_files<R: Read, W: Write, E: Write, F: Folder, P: Progress>(
     ensures refused { (refusal : ElfError) → first_refusal (checks file.now) ≡ Err refusal
         → IfErr result (λ error. error ≡ ImageError.Elf refusal) }
     ensures long { IsExecutable file.now → memory_refusal file.now wanted ≡ None
-        → AreLong file.now (map string_bytes arguments.now) wanted
+        → AreLong file.now (map string_bytes arguments.now) (map string_bytes variables.now) wanted
         → result ≡ Err ImageError.LongArguments }
     ensures otherwise { IsExecutable file.now → memory_refusal file.now wanted ≡ None
-        → (AreLong file.now (map string_bytes arguments.now) wanted → ⊥)
+        → (AreLong file.now (map string_bytes arguments.now)
+        (map string_bytes variables.now) wanted → ⊥)
         → IfErr result (λ error. error ≡ ImageError.OutOfMemory) }
 {
-    let LoadedProcess { image, memory } = load_process(alloc, file, arguments, wanted)?;
+    let LoadedProcess { image, memory } = load_process(alloc, file, arguments, variables, wanted)?;
     Ok(run_image(image, memory, limit, strict, environment, progress))
 }
 
@@ -66,6 +69,7 @@ pub fn execute_below<R: Read, W: Write, E: Write, F: Folder + Drop, P: Progress>
     alloc: Global,
     file: &[u8],
     arguments: &[String],
+    variables: &[String],
     wanted: u64,
     limit: u64,
     strict: bool,
@@ -74,7 +78,8 @@ pub fn execute_below<R: Read, W: Write, E: Write, F: Folder + Drop, P: Progress>
     progress: &mut P,
 ) -> Result<ProcessEnd, ImageError>
     ensures executed { IfOk result (λ end. RunsBelow R.remaining W.contents E.contents F.did
-        strict file.now (map string_bytes arguments.now) wanted limit
+        strict file.now (map string_bytes arguments.now) (map string_bytes variables.now)
+        wanted limit
         process.old files end.steps end.pc end.ending) }
     ensures ceiling { IsExecutable file.now
         → IfSome (memory_refusal file.now wanted) (λ error. result ≡ Err error) }
@@ -82,13 +87,14 @@ pub fn execute_below<R: Read, W: Write, E: Write, F: Folder + Drop, P: Progress>
     ensures refused { (refusal : ElfError) → first_refusal (checks file.now) ≡ Err refusal
         → IfErr result (λ error. error ≡ ImageError.Elf refusal) }
     ensures long { IsExecutable file.now → memory_refusal file.now wanted ≡ None
-        → AreLong file.now (map string_bytes arguments.now) wanted
+        → AreLong file.now (map string_bytes arguments.now) (map string_bytes variables.now) wanted
         → result ≡ Err ImageError.LongArguments }
     ensures otherwise { IsExecutable file.now → memory_refusal file.now wanted ≡ None
-        → (AreLong file.now (map string_bytes arguments.now) wanted → ⊥)
+        → (AreLong file.now (map string_bytes arguments.now)
+        (map string_bytes variables.now) wanted → ⊥)
         → IfErr result (λ error. error ≡ ImageError.OutOfMemory) }
 {
-    let LoadedProcess { image, memory } = load_process(alloc, file, arguments, wanted)?;
+    let LoadedProcess { image, memory } = load_process(alloc, file, arguments, variables, wanted)?;
     process.heap = Heap::new(image.layout.heap_start, image.layout.heap_end);
     Ok(run_below(image, memory, limit, strict, process, files, progress))
 }

@@ -58,13 +58,13 @@ pub run_kept : {R W E V : Type 0} (remaining : R → Option (List ℕ))
     (contents : W → Option (List ℕ)) (errors_of : E → Option (List ℕ))
     (sees : V → Retired → V → Type 0) (wants : V → Bool) (P : List Retired → V → Type 0)
     → ((rs : List Retired) (r : Retired) (v w : V) → P rs v → sees v r w → P (rs ++ r ∷ []) w)
-    → (file : List ℕ) (arguments : List (List ℕ)) (wanted limit : ℕ)
+    → (file : List ℕ) (arguments variables : List (List ℕ)) (wanted limit : ℕ)
     (old new : Process R (HostWriter W) (HostWriter E) HostSide) (v v' : V) (steps pc : ℕ) (ending : Ending)
-    → WatchesProcess remaining contents errors_of sees wants file arguments wanted limit old new v v' steps pc ending
+    → WatchesProcess remaining contents errors_of sees wants file arguments variables wanted limit old new v v' steps pc ending
     → wants v' ≡ true → P [] v
     → (rs : List Retired)
-    × RunsWithRecords remaining contents errors_of file arguments wanted limit old new steps pc ending rs × P rs v'
-run_kept remaining contents errors_of sees wants P grows file arguments wanted limit old new v v' steps pc ending watched more none =
+    × RunsWithRecords remaining contents errors_of file arguments variables wanted limit old new steps pc ending rs × P rs v'
+run_kept remaining contents errors_of sees wants P grows file arguments variables wanted limit old new v v' steps pc ending watched more none =
     let serves = Serves remaining contents errors_of in
     let runs = watched.runs in
     let start = start_in runs.image runs.bytes runs.writable in

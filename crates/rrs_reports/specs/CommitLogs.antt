@@ -121,10 +121,10 @@ log_text from (e ∷ entries) =
 -- A run is one of `execute_process` with so many steps, and its log is what was written.
 pub record TracesProcess {R W E : Type 0} (remaining : R → Option (List ℕ))
     (contents : W → Option (List ℕ)) (errors_of : E → Option (List ℕ))
-    (file : List ℕ) (arguments : List (List ℕ)) (wanted limit : ℕ)
+    (file : List ℕ) (arguments variables : List (List ℕ)) (wanted limit : ℕ)
     (old new : Process R (HostWriter W) (HostWriter E) HostSide)
     (steps pc : ℕ) (ending : Ending) (from : Option ℕ) (before after : Option (List ℕ)) : Type 0 where
   pub records : List Retired
-  pub runs : RunsWithRecords remaining contents errors_of file arguments wanted limit old new
-      steps pc ending records
+  pub runs : RunsWithRecords remaining contents errors_of file arguments variables wanted limit
+      old new steps pc ending records
   pub written : Appends before after (log_text from (map entry_of records))

@@ -69,12 +69,12 @@ pub record Covers (records : List Retired) (c : Coverage) : Type 0 where
 -- A run is one of `execute_process` with so many steps, and the counts are those of its steps.
 pub record CoversProcess {R W E : Type 0} (remaining : R → Option (List ℕ))
     (contents : W → Option (List ℕ)) (errors_of : E → Option (List ℕ))
-    (file : List ℕ) (arguments : List (List ℕ)) (wanted limit : ℕ)
+    (file : List ℕ) (arguments variables : List (List ℕ)) (wanted limit : ℕ)
     (old new : Process R (HostWriter W) (HostWriter E) HostSide)
     (steps pc : ℕ) (ending : Ending) (c : Coverage) : Type 0 where
   pub records : List Retired
-  pub runs : RunsWithRecords remaining contents errors_of file arguments wanted limit old new
-      steps pc ending records
+  pub runs : RunsWithRecords remaining contents errors_of file arguments variables wanted limit
+      old new steps pc ending records
   pub covers : Covers records c
 
 -- A session at a terminal that ended so, and the counts are those of its steps.

@@ -20,7 +20,7 @@ wants_all records = true
 -- A process is loaded and runs for so many steps, and these are the records of its run.
 pub record RunsWithRecords {R W E : Type 0} (remaining : R → Option (List ℕ))
     (contents : W → Option (List ℕ)) (errors_of : E → Option (List ℕ))
-    (file : List ℕ) (arguments : List (List ℕ)) (wanted limit : ℕ)
+    (file : List ℕ) (arguments variables : List (List ℕ)) (wanted limit : ℕ)
     (old new : Process R (HostWriter W) (HostWriter E) HostSide)
     (steps pc : ℕ) (ending : Ending) (records : List Retired) : Type 0 where
   pub runs : RunsProcess (Served (Serves remaining contents errors_of))

@@ -229,6 +229,7 @@ pub fn trace_process<R: Read, W: Write, E: Write, O: Write, P: Progress>(
     alloc: Global,
     file: &[u8],
     arguments: &[String],
+    variables: &[String],
     wanted: u64,
     limit: u64,
     environment: &mut Linux<R, W, E>,
@@ -237,7 +238,7 @@ pub fn trace_process<R: Read, W: Write, E: Write, O: Write, P: Progress>(
     progress: &mut P,
 ) -> Result<ProcessEnd, TraceError>
     ensures traced { IfOk result (λ end. TracesProcess R.remaining W.contents E.contents
-        file.now (map string_bytes arguments.now) wanted limit
+        file.now (map string_bytes arguments.now) (map string_bytes variables.now) wanted limit
         environment.old environment.new end.steps end.pc end.ending
         from (O.contents out.old) (O.contents out.new)) }
 {
@@ -250,6 +251,7 @@ pub fn trace_process<R: Read, W: Write, E: Write, O: Write, P: Progress>(
         alloc,
         file,
         arguments,
+        variables,
         wanted,
         limit,
         environment,

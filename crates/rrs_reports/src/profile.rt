@@ -169,13 +169,14 @@ pub fn cover_process<'a, 'b, R: Read, W: Write, E: Write, P: Progress>(
     file: &[u8],
     code: &'b Code<'a>,
     arguments: &[String],
+    variables: &[String],
     wanted: u64,
     limit: u64,
     environment: &mut Linux<R, W, E>,
     progress: &mut P,
 ) -> Result<(ProcessEnd, Profile<'a, 'b>), ImageError>
     ensures covered { IfOk result (λ run. CoversProcess R.remaining W.contents E.contents
-        file.now (map string_bytes arguments.now) wanted limit
+        file.now (map string_bytes arguments.now) (map string_bytes variables.now) wanted limit
         environment.old environment.new run.0.steps run.0.pc run.0.ending run.1.coverage) }
     ensures kept { OnErr result (environment.new ≡ environment.old) }
 {
@@ -186,6 +187,7 @@ pub fn cover_process<'a, 'b, R: Read, W: Write, E: Write, P: Progress>(
         alloc,
         file,
         arguments,
+        variables,
         wanted,
         limit,
         environment,

@@ -1,6 +1,6 @@
 //! The tests of what stands around a machine, written as a user's crate would be: of `rrs_fast` and
-//! `rrs_linux`, which serve the calls of a program, of `rrs_trace`, of `rrs_history`, and of the
-//! proved programs of `rrs_programs`.
+//! `rrs_linux`, which serve the calls of a program, of the stack that `rrs_exec` gives one, of
+//! `rrs_trace`, of `rrs_history`, and of the proved programs of `rrs_programs`.
 //!
 //! `calls`, `console`, `tracing` and `back` have examples of `docs/HOSTS.md`, `devices` two of
 //! `docs/MEMORIES.md`, which also speaks of `ports` and `greeting`, and `count_down` is the program
@@ -34,6 +34,8 @@ mod printing;
 mod programs;
 #[cfg(test)]
 mod served_programs;
+#[cfg(test)]
+mod stack;
 #[cfg(test)]
 mod stopping;
 #[cfg(test)]

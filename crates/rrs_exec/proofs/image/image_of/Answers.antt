@@ -29,4 +29,4 @@ returns-clause-image c =
 pub returns-clause-long : goal.returns-clause-long
 returns-clause-long c = λ none long.
     let mine = rw (c.bounds_of.ensures.first, c.bounds_of.ensures.end) at c.in_ok-layout.ensures.layout in
-    absurd (not_long c.args.executable.now.file.now (map string_bytes c.args.arguments.now) c.args.wanted c.in_ok-sp.sp c.in_ok-layout.layout mine c.in_ok-sp.ensures.pointer c.in_ok-sp.ensures.on_stack long)
+    absurd (not_long c.args.executable.now.file.now (map string_bytes c.args.arguments.now) (map string_bytes c.args.variables.now) c.args.wanted c.in_ok-sp.sp c.in_ok-layout.layout mine c.in_ok-sp.ensures.pointer c.in_ok-sp.ensures.on_stack long)

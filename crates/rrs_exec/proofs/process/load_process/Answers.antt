@@ -32,9 +32,9 @@ lies : (base end a : ℕ) → base ≤ a → a < end → lies_between base end a
 lies base end a from below = grind (arith, nat_tests)
 
 -- a program that can be entered has an address
-entered : (file : List ℕ) (arguments : List (List ℕ)) (wanted : ℕ) (image : Image) → IsExecutable file → IsImage file arguments wanted image
+entered : (file : List ℕ) (arguments variables : List (List ℕ)) (wanted : ℕ) (image : Image) → IsExecutable file → IsImage file arguments variables wanted image
     → image.layout.base ≤ image.layout.stack_start
-entered file arguments wanted image here im =
+entered file arguments variables wanted image here im =
     let at = here.entry_inside in
     let sized : loaded_size file at.0 ≡ p_memsz file at.0 = loaded-whole file at.0 at.1.loaded.of_type in
     let inside = im.program at.0 (e_entry file - p_vaddr file at.0) at.1.loaded.numbered (omega (arith, sized, at.1.from_start, at.1.before_end)) in
@@ -43,8 +43,8 @@ entered file arguments wanted image here im =
 pub new-requires-clause-ordered : goal.new-requires-clause-ordered
 new-requires-clause-ordered c =
     let here : IsExecutable c.args.file.now = search rules in
-    entered c.args.file.now (map string_bytes c.args.arguments.now) c.args.wanted c.in_ok-image.image here
-    (subst (λ file. IsImage file (map string_bytes c.args.arguments.now) c.args.wanted c.in_ok-image.image) c.in-Ok.ensures.same c.in_ok-image.ensures.image)
+    entered c.args.file.now (map string_bytes c.args.arguments.now) (map string_bytes c.args.variables.now) c.args.wanted c.in_ok-image.image here
+    (subst (λ file. IsImage file (map string_bytes c.args.arguments.now) (map string_bytes c.args.variables.now) c.args.wanted c.in_ok-image.image) c.in-Ok.ensures.same c.in_ok-image.ensures.image)
 
 pub new-requires-clause-stack : goal.new-requires-clause-stack
 new-requires-clause-stack c = omega (arith, c.in_ok-image.ensures.image.laid_out.stack.0)
@@ -71,7 +71,7 @@ returns-clause-loaded c =
     let same = c.in-Ok.ensures.same in
     record {
       executable = search rules;
-      is_image = subst (λ file. IsImage file (map string_bytes c.args.arguments.now) c.args.wanted image) same im;
+      is_image = subst (λ file. IsImage file (map string_bytes c.args.arguments.now) (map string_bytes c.args.variables.now) c.args.wanted image) same im;
       long = c.fill.ensures.writable_kept ∙ c.in-Ok-new.ensures.writable;
       filled = renamed _ _ _ _ _ _ _ _ same c.deref.ensures.value c.in-Ok-new.ensures.zeros c.in_ok-fill.ensures.filled;
     }
@@ -132,9 +132,9 @@ returns-in_err-fill-clause-otherwise c = λ executable none fine.
     let layout = image.layout in
     let im = c.in_ok-image.ensures.image in
     let file = c.in-Ok.executable.file.now in
-    let low : layout.base ≤ layout.stack_start = entered file (map string_bytes c.args.arguments.now) c.args.wanted image (rw c.in-Ok.ensures.same executable) im in
-    let size : length c.deref.result.now ≡ stack_bytes (map string_bytes c.args.arguments.now) =
-    ap length (c.deref.ensures.value ∙ im.stack_is) ∙ block_length image.stack_pointer (map string_bytes c.args.arguments.now) _ in
+    let low : layout.base ≤ layout.stack_start = entered file (map string_bytes c.args.arguments.now) (map string_bytes c.args.variables.now) c.args.wanted image (rw c.in-Ok.ensures.same executable) im in
+    let size : length c.deref.result.now ≡ stack_bytes (map string_bytes c.args.arguments.now) (map string_bytes c.args.variables.now) =
+    ap length (c.deref.ensures.value ∙ im.stack_is) ∙ block_length image.stack_pointer (map string_bytes c.args.arguments.now) (map string_bytes c.args.variables.now) _ in
     let fits = im.fits in
     let top = im.laid_out.top in
     let writable = c.in-Ok-new.ensures.writable in

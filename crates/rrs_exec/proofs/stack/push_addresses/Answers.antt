@@ -5,23 +5,23 @@ use Rattle.rrs_exec.specs.InitialStack.{strings}
 use Rattle.rrs_exec.proofs.StackWords.{cut_at, address_pushed, string_counted}
 use Rattle.rrs_exec.proofs.stack.push_addresses.Goals as goal
 
-cut : (c : goal.After-len) → map string_bytes (drop c.loop-argument.argument-index c.args.arguments.now)
-    ≡ string_bytes c.argument-item.result
-    ∷ map string_bytes (drop (c.loop-argument.argument-index + 1) c.args.arguments.now)
+cut : (c : goal.After-len) → map string_bytes (drop c.loop-text.text-index c.args.texts.now)
+    ≡ string_bytes c.text-item.result
+    ∷ map string_bytes (drop (c.loop-text.text-index + 1) c.args.texts.now)
 cut c = ap (map string_bytes)
-    (cut_at _ c.loop-argument.argument-index c.argument-item.result c.loop-argument-test.true c.argument-item.is)
+    (cut_at _ c.loop-text.text-index c.text-item.result c.loop-text-test.true c.text-item.is)
 
-long : (c : goal.After-len) → c.len.result ≡ length (string_bytes c.argument-item.result)
-long c = c.len.ensures ∙ c.argument-item.result.bytes.ok.0
+long : (c : goal.After-len) → c.len.result ≡ length (string_bytes c.text-item.result)
+long c = c.len.ensures ∙ c.text-item.result.bytes.ok.0
 
-counted : (c : goal.After-len) → c.loop-argument.address + (c.len.result + 1)
-    + length (strings (map string_bytes (drop (c.loop-argument.argument-index + 1) c.args.arguments.now)))
-    ≡ c.args.start + length (strings (map string_bytes c.args.arguments.now))
-counted c = string_counted _ _ _ (cut c) _ _ _ (long c) c.loop-argument.invariant.within
+counted : (c : goal.After-len) → c.loop-text.address + (c.len.result + 1)
+    + length (strings (map string_bytes (drop (c.loop-text.text-index + 1) c.args.texts.now)))
+    ≡ c.args.start + length (strings (map string_bytes c.args.texts.now))
+counted c = string_counted _ _ _ (cut c) _ _ _ (long c) c.loop-text.invariant.within
 
-pub loop-argument-preserved : goal.loop-argument-preserved
-loop-argument-preserved c = record {
-  pushed = address_pushed _ _ _ (cut c) _ _ _ _ _ (long c) c.loop-argument.invariant.pushed
+pub loop-text-preserved : goal.loop-text-preserved
+loop-text-preserved c = record {
+  pushed = address_pushed _ _ _ (cut c) _ _ _ _ _ (long c) c.loop-text.invariant.pushed
       c.in_ok-push_word.ensures;
   within = counted c;
 }
@@ -32,5 +32,5 @@ overflow_cast-address c = omega (arith, counted c, c.requires)
 pub overflow_add-address : goal.overflow_add-address
 overflow_add-address c = omega (arith, counted c, c.requires)
 
-pub overflow_add-address-in-loop-argument : goal.overflow_add-address-in-loop-argument
-overflow_add-address-in-loop-argument c = omega (arith, counted c, c.requires)
+pub overflow_add-address-in-loop-text : goal.overflow_add-address-in-loop-text
+overflow_add-address-in-loop-text c = omega (arith, counted c, c.requires)

@@ -4,10 +4,10 @@ use Rattle.std.specs.String.{string_bytes}
 use Rattle.rrs_exec.proofs.StackWords.{cut_at, string_pushed}
 use Rattle.rrs_exec.proofs.stack.push_strings.Goals as goal
 
-pub loop-argument-preserved : goal.loop-argument-preserved
-loop-argument-preserved c =
-    let item = c.argument-item in
-    let cut = cut_at _ c.loop-argument.argument-index item.result c.loop-argument-test.true item.is in
-    string_pushed _ _ _ (ap (map string_bytes) cut) _ _ _ _ _ c.loop-argument.invariant
+pub loop-text-preserved : goal.loop-text-preserved
+loop-text-preserved c =
+    let item = c.text-item in
+    let cut = cut_at _ c.loop-text.text-index item.result c.loop-text-test.true item.is in
+    string_pushed _ _ _ (ap (map string_bytes) cut) _ _ _ _ _ c.loop-text.invariant
     c.as_bytes.ensures.value c.in_ok-extend_from_slice.ensures.items
     c.in_ok-extend_from_slice-2.ensures.items

@@ -21,7 +21,7 @@ returns-else-is_broken g c =
     let whole : new.is_broken ≡ false = c.if-is_broken.false in
     let k = run_kept _ _ _ _ wants_lines (λ rs v. Held contents from before start (map entry_of rs) v)
     (λ rs r v w held logs. held_of contents from before start entry_of rs r v w held logs)
-    _ _ _ _ _ _ _ _ _ _ _ c.in-Ok.ensures.watched (ap (λ (b : Bool). if b then false else true) whole)
+    _ _ _ _ _ _ _ _ _ _ _ _ c.in-Ok.ensures.watched (ap (λ (b : Bool). if b then false else true) whole)
     (record { same_out = refl; whole = logged_none contents from _ refl }) in
     let name = k.2.same_out in
     let same : c.out-1.given.0 ≡ new.out.now = search rules in

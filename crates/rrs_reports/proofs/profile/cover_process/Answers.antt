@@ -10,5 +10,5 @@ returns-clause-covered g c =
     let new = c.in-Ok.ensures in
     let k = run_kept _ _ _ _ _ (λ rs p. Covers rs p.coverage)
     (λ rs r v w before now. covers_more rs r v.coverage w.coverage before now)
-    _ _ _ _ _ _ _ _ _ _ _ c.in_ok-end.ensures.watched refl (covers_none _ new.0 new.1 new.2) in
+    _ _ _ _ _ _ _ _ _ _ _ _ c.in_ok-end.ensures.watched refl (covers_none _ new.0 new.1 new.2) in
     record { records = k.0; runs = k.1; covers = k.2 }
