@@ -12,3 +12,4 @@ pub mod Telling
 pub mod MendedBytes
 pub mod MendedSteps
 pub mod MendedRuns
+pub mod MendedTold

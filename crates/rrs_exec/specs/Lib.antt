@@ -10,6 +10,7 @@ pub mod Layouts
 pub mod Images
 pub mod Mending
 pub mod MendedRounds
+pub mod MendedRecords
 pub mod Processes
 pub mod Watching
 pub mod Progress

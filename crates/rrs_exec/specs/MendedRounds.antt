@@ -1,6 +1,6 @@
 -- What the private functions of mending.rt say: an access at any address, and the rounds of a run
 -- that is mended, each a served run and the instruction that it faulted at.
-use Rattle.std.specs.Prelude.{◌≡◌, ℕ, ◌+◌, ◌<◌, ◌≤◌, ℤ, pos, Bool, if◌then◌else◌, List, ◌++◌, Option, Some, None, Ok}
+use Rattle.std.specs.Prelude.{◌≡◌, ℕ, ◌+◌, ◌<◌, ◌≤◌, ℤ, pos, Bool, if◌then◌else◌, List, ◌++◌, Option, Some, None, Result, Ok, Err}
 use Rattle.rrs_instruction.specs.Results.{sign_extended}
 use Rattle.rrs_lib.specs.Machine.{State, Outcome}
 use Rattle.rrs_lib.specs.Steps.{StepAnswer, answered}
@@ -15,6 +15,15 @@ use Rattle.rrs_exec.specs.Mending.{Mended, MendedRun}
 -- the number that a value of so many bytes is, by its sign or without one
 abbrev pub extended_by : Bool → ℕ → ℕ → ℤ
 extended_by is_signed size = if is_signed then sign_extended size else pos
+
+-- the answer of what tells something more where it is Ok
+abbrev pub answer_of : {A : Type 0} → Result A InstructionException → StepAnswer
+answer_of (Ok told) = Ok tt
+answer_of (Err e) = Err e
+
+abbrev pub answer_if : {A : Type 0} → Option (Result A InstructionException) → Option StepAnswer
+answer_if None = None
+answer_if (Some answer) = Some (answer_of answer)
 
 -- an outcome, where there is one, is what became of the state, and the answer
 abbrev pub Leaves : Outcome → State → StepAnswer → Type 0

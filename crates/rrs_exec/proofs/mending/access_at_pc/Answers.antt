@@ -1,4 +1,5 @@
-use Rattle.std.proofs.Common.{◌≡◌, ◌∷◌, false, Some, None, Err, sym, subst, ◌∙◌, refl}
+use Rattle.std.proofs.Common.{◌≡◌, ◌∷◌, false, Some, None, Err, sym, subst, ◌∙◌, refl, IfOk, IfSome}
+use Rattle.rrs_exec.specs.MendedRecords.{whole_access}
 use Rattle.std.proofs.lemmas.Option.{none-some, same_Some}
 use Rattle.rrs_instruction.specs.Instructions.{row_of, fields_of}
 use Rattle.rrs_instruction.specs.Table.{table, Decodes}
@@ -7,7 +8,8 @@ use Rattle.rrs_lib.specs.Machine.{state_of}
 use Rattle.rrs_lib.specs.Steps.{next_word}
 use Rattle.rrs_lib.specs.Accesses.{Makes, fetch, read_if_aligned}
 use Rattle.rrs_exec.specs.Mending.{anywhere_by, accesses_anywhere, Mended}
-use Rattle.rrs_exec.specs.MendedRounds.{LeavesIf}
+use Rattle.rrs_exec.specs.MendedRounds.{answer_of, answer_if, LeavesIf}
+use Rattle.rrs_exec.proofs.MendedTold.{ok_more, told_of, of_access}
 use Rattle.rrs_exec.proofs.MendedSteps.{next_is, by_bytes, is_none, none_accessed, behind_fetch, stays_put}
 use Rattle.rrs_exec.proofs.mending.access_at_pc.Goals as goal
 
@@ -59,10 +61,10 @@ returns-in-Some-access-clause-mended g c = λ address r is.
     let bytes = memory.bytes done.new.mem in
     let writable = memory.writable done.new.mem in
     let u = state_of done.new.hart bytes writable in
-    let answer = c.in-Some-access.answer in
+    let answer = answer_of c.in-Some-access.answer in
     let left : LeavesIf (anywhere_by action f s) s u (Some answer) =
-    subst (λ a. LeavesIf (anywhere_by action f s) s u a) c.in-Some-access.is
-    (subst (λ x. LeavesIf (anywhere_by action f x) x u done.result) after done.ensures.outcome) in
+    subst (λ a. LeavesIf (anywhere_by action f s) s u (answer_if a)) c.in-Some-access.is
+    (subst (λ x. LeavesIf (anywhere_by action f x) x u (answer_if done.result)) after done.ensures.outcome) in
     let made = subst (λ x. Makes memory.reads memory.writes (accesses_anywhere action f x) c.fetch_word.new.mem done.new.mem) after done.ensures.makes in
     let gone = c.go_on.ensures in
     let mended = by_bytes c.args.fault address c.in-Ok.word (row_of i) f s (state_of c.go_on.new.hart bytes writable) u r answer (anywhere_by action f s)
@@ -88,8 +90,8 @@ returns-in-None-clause-mended g c = λ address r is.
     let done = c.access in
     let u = state_of done.new.hart (memory.bytes done.new.mem) (memory.writable done.new.mem) in
     let left : LeavesIf (anywhere_by action f s) s u None =
-    subst (λ a. LeavesIf (anywhere_by action f s) s u a) c.in-None.is
-    (subst (λ x. LeavesIf (anywhere_by action f x) x u done.result) after done.ensures.outcome) in
+    subst (λ a. LeavesIf (anywhere_by action f s) s u (answer_if a)) c.in-None.is
+    (subst (λ x. LeavesIf (anywhere_by action f x) x u (answer_if done.result)) after done.ensures.outcome) in
     let none = is_none (anywhere_by action f s) s u left in
     let stays = stays_put c.args.fault address s r is (λ w row f' next decodes.
     let same : w ≡ c.in-Ok.word = same_Some _ _ (sym next ∙ there) in
@@ -103,3 +105,29 @@ returns-in-None-clause-mended g c = λ address r is.
       these = subst (λ t. Mended false c.args.fault r s r t (Err c.args.fault) (read_if_aligned s s.pc Word)) (sym none.1) stays;
       made = subst (λ m. Makes memory.reads memory.writes (read_if_aligned s s.pc Word) c.args.mem.now m) (sym still) (c.fetch_word.ensures.makes s refl);
     }
+
+-- what is told of it
+pub returns-in-Some-access-clause-carried : goal.returns-in-Some-access-clause-carried
+returns-in-Some-access-clause-carried g c =
+    let memory = g.M.Memory in
+    let s = state_of c.args.hart.now (memory.bytes c.args.mem.now) (memory.writable c.args.mem.now) in
+    let after : state_of c.args.hart.now (memory.bytes c.fetch_word.new.mem) (memory.writable c.fetch_word.new.mem) ≡ s =
+    (λ k. state_of c.args.hart.now (c.fetch_word.ensures.bytes_kept k) (c.fetch_word.ensures.writable_kept k)) in
+    let word = c.in-Ok.ensures.word in
+    let i = c.in-Some.instruction in
+    let action = (table (row_of i)).action in
+    let f = fields_of i in
+    let done = c.access in
+    let sources = c.source_registers-sources in
+    let told : IfSome done.result (λ a. IfOk a (λ y. y ≡ whole_access action f s)) =
+    subst (λ x. IfSome done.result (λ a. IfOk a (λ y. y ≡ whole_access action f x))) after done.ensures.told in
+    ok_more c.go_on.result _ _ c.go_on.ensures.carried (λ x here address r is.
+    of_access c.args.fault address c.in-Ok.word (row_of i) f s r sources.result.0 sources.result.1 x is
+    (next_is s c.in-Ok.word word.0 word.1) c.in-Some.ensures.decoded sources.ensures.first sources.ensures.second here.0 here.1
+    (told_of done.result c.in-Some-access.answer x.access _ c.in-Some-access.is here.2 told))
+
+pub returns-in-Some-access-clause-low : goal.returns-in-Some-access-clause-low
+returns-in-Some-access-clause-low g c =
+    let sources = c.source_registers-sources in
+    ok_more c.go_on.result _ _ c.go_on.ensures.carried (λ x here.
+    (rw here.1 sources.ensures.first_low, rw here.1 sources.ensures.second_low))
