@@ -12,8 +12,8 @@
 //! [execute_process] runs it and serves its system calls. What that is, is written in
 //! `specs/Processes.antt`. It is a run of [run_mended], which carries out misaligned loads and
 //! stores and the instructions of extension A, as `specs/Mending.antt` says. [watch_process] runs a
-//! process without that, and shows each step to a [Watcher], as `specs/Watching.antt` says. Both
-//! tell a [Progress] of the steps, of which their contracts say nothing, and that of [InPieces] all.
+//! process so too, and shows each step to a [Watcher], as `specs/Watching.antt` says. Both tell a
+//! [Progress] of the steps, of which their contracts say nothing, and that of [InPieces] all.
 
 #![tactic(auto)]
 

@@ -13,6 +13,7 @@ ghost use Rattle.rrs_elf.specs.Refusals.{first_refusal, checks};
 ghost use Rattle.rrs_exec.specs.Watching.{ServesAt, Turn, IsWatched, WatchesImage, WatchesProcess};
 
 use crate::image::{Image, ImageError};
+use crate::mending::mend_retired;
 use crate::process::{KeptMemory, LoadedProcess, ProcessEnd, load_process, started};
 use crate::process_memory::ProcessMemory;
 use crate::progress::Progress;
@@ -21,6 +22,7 @@ use rrs_fast::{CachedMemory, Ending, Environment, ServedEnd};
 use rrs_lib::Memory;
 use rrs_lib::instruction_executor::{InstructionException, InstructionExecutor};
 use rrs_linux::{Heap, Linux};
+use rrs_trace::Retired;
 use std::alloc::Global;
 use std::io::{Read, Write};
 
@@ -62,6 +64,11 @@ pub trait Watcher {
             (AccessesOf (state_in protected_bytes protected_writable executor.old))
             executor.old.mem.now executor.new.mem.now };
 
+    /// Sees what an instruction retired that was carried out after its fault. `watch_step` saw the
+    /// fault.
+    fn see_mended(&mut self, retired: &Retired)
+        ensures { sees self.old retired.now self.new };
+
     /// Whether the run is to go on. It is asked before each step.
     fn wants_more(&self) -> bool
         ensures { result ≡ wants self.now };
@@ -96,22 +103,24 @@ fn wants_more<V: Watcher>(watcher: &V) -> bool
     watcher.wants_more()
 }
 
-/// Has a watcher make the step of this number, and has an `ecall` served. The answer is
-/// `None` where the program goes on, or the status with which the call ended it.
+/// Has a watcher make the step of this number, and has an `ecall` served. The instruction of a
+/// fault is carried out where [mend](crate::mend) does so, and the watcher sees it then. The answer
+/// is `None` where the program goes on, or the status with which the call ended it.
 ///
 /// # Errors
 ///
-/// The exceptions of `step` but `EnvironmentCall`.
+/// Those of [mend](crate::mend), for the exceptions of `step` but `EnvironmentCall`.
 fn take_turn<E: Environment, V: Watcher>(
     executor: &mut InstructionExecutor<KeptMemory>,
     environment: &mut E,
+    reservation: &mut Option<u32>,
     watcher: &mut V,
     number: u64,
 ) -> Result<Option<u32>, InstructionException>
     ensures turn { MakesSome protected_reads ProtectedWrites
-        (Turn E.serves V.sees number
+        (Turn E.serves V.sees number reservation.old
         environment.old (state_in protected_bytes protected_writable executor.old)
-        watcher.old result
+        watcher.old result reservation.new
         environment.new (state_in protected_bytes protected_writable executor.new)
         watcher.new)
         executor.old.mem.now executor.new.mem.now }
@@ -122,7 +131,13 @@ fn take_turn<E: Environment, V: Watcher>(
     };
     match exception {
         InstructionException::EnvironmentCall(pc) => Ok(serve_at(executor, environment, pc)),
-        fault => Err(fault),
+        fault => match mend_retired(executor, reservation, fault, number) {
+            Ok(retired) => {
+                watcher.see_mended(&retired);
+                Ok(None)
+            }
+            Err(left) => Err(left),
+        },
     }
 }
 
@@ -134,9 +149,9 @@ fn tell<P: Progress>(progress: &mut P, number: u64) {
     }
 }
 
-/// Makes steps up to `limit`, to an exception, until the environment ends the program, or until the
-/// watcher wants no more, which ends the run as a limit does. Each step is shown, and the progress
-/// is told of each piece of them.
+/// Makes steps up to `limit`, to an exception that is not mended, until the environment ends the
+/// program, or until the watcher wants no more, which ends the run as a limit does. Each step is
+/// shown, and the progress is told of each piece of them.
 #[inline(never)]
 fn run_watched<E: Environment, V: Watcher, P: Progress>(
     executor: &mut InstructionExecutor<KeptMemory>,
@@ -153,12 +168,13 @@ fn run_watched<E: Environment, V: Watcher, P: Progress>(
         executor.old.mem.now executor.new.mem.now }
     ensures rest { KeepsTheRest protected_layout executor.old executor.new }
 {
+    let mut reservation = None;
     for steps in 0..limit {
         if !wants_more(watcher) {
             let ending = Ending::Limit;
             return ServedEnd { steps, ending };
         }
-        match take_turn(executor, environment, watcher, steps) {
+        match take_turn(executor, environment, &mut reservation, watcher, steps) {
             Ok(None) => tell(progress, steps),
             Ok(Some(status)) => {
                 return ServedEnd {
@@ -219,9 +235,10 @@ fn watch_image<R: Read, W: Write, E: Write, V: Watcher, P: Progress>(
     ProcessEnd { ending, steps, pc }
 }
 
-/// Runs a file's bytes as [execute_process](crate::execute_process) does, and shows each step to a
-/// watcher: once, in order, with its number from 0 on. A fault is shown too, though it counts as no
-/// step.
+/// Runs a file's bytes as [execute_process](crate::execute_process) does where misaligned addresses
+/// are not strict, and shows each step to a watcher: once, in order, with its number from 0 on. A
+/// fault is shown too, though it counts as no step. Where its instruction is carried out, that is
+/// shown behind it, with the same number.
 ///
 /// Where the watcher wants no more the run ends as it does at the limit, after the steps that were
 /// shown.

@@ -16,7 +16,7 @@ pub loop-steps-preserved : goal.loop-steps-preserved
 loop-steps-preserved g c =
     record {
       leads =
-          leads_more g.E.Environment.serves g.V.Watcher.sees g.V.Watcher.wants protected_reads ProtectedWrites _ _ _ _ _ _ _ _ _ _ _ _ _ _
+          leads_more g.E.Environment.serves g.V.Watcher.sees g.V.Watcher.wants protected_reads ProtectedWrites _ _ _ _ _ _ _ _ _ _ _ _ _ _ _ _
           c.in-Ok-None.field-0-is (sym c.wants_more.ensures ∙ c.if-not-wants_more.false) c.loop-steps.invariant.leads c.in-Ok-None.ensures.turn;
       rest = KeepsTheRest-trans _ _ _ _ c.loop-steps.invariant.rest c.take_turn.ensures.rest;
     }
@@ -24,20 +24,20 @@ loop-steps-preserved g c =
 pub returns-in-Ok-Some-clause-watched : goal.returns-in-Ok-Some-clause-watched
 returns-in-Ok-Some-clause-watched g c =
     ends_by_exit g.E.Environment.serves g.V.Watcher.sees g.V.Watcher.wants protected_reads ProtectedWrites c.args.limit
-    _ _ _ _ _ _ _ _ _ _ _ _ _ c.in-Ok-Some.status _ c.in-Ok-Some.field-0-is c.loop-steps-test.true (sym c.wants_more.ensures ∙ c.if-not-wants_more.false) c.loop-steps.invariant.leads c.in-Ok-Some.ensures.turn
+    _ _ _ _ _ _ _ _ _ _ _ _ _ _ _ c.in-Ok-Some.status _ c.in-Ok-Some.field-0-is c.loop-steps-test.true (sym c.wants_more.ensures ∙ c.if-not-wants_more.false) c.loop-steps.invariant.leads c.in-Ok-Some.ensures.turn
 
 pub returns-in-Err-clause-watched : goal.returns-in-Err-clause-watched
 returns-in-Err-clause-watched g c =
     ends_by_fault_at g.E.Environment.serves g.V.Watcher.sees g.V.Watcher.wants protected_reads ProtectedWrites c.args.limit
-    _ _ _ _ _ _ _ _ _ _ _ _ _ _ c.loop-steps-test.true (sym c.wants_more.ensures ∙ c.if-not-wants_more.false) c.loop-steps.invariant.leads c.in-Err.ensures.turn
+    _ _ _ _ _ _ _ _ _ _ _ _ _ _ _ _ c.loop-steps-test.true (sym c.wants_more.ensures ∙ c.if-not-wants_more.false) c.loop-steps.invariant.leads c.in-Err.ensures.turn
 
 pub returns-clause-watched : goal.returns-clause-watched
 returns-clause-watched g c =
     ends_at_limit g.E.Environment.serves g.V.Watcher.sees g.V.Watcher.wants protected_reads ProtectedWrites c.args.limit
-    _ _ _ _ _ _ _ _ c.args.limit c.loop-steps.steps (omega arith) (omega arith) (λ _. refl) c.loop-steps.invariant.leads
+    _ _ _ _ _ _ _ _ _ c.args.limit c.loop-steps.steps (omega arith) (omega arith) (λ _. refl) c.loop-steps.invariant.leads
 
 pub returns-then-not-wants_more-clause-watched : goal.returns-then-not-wants_more-clause-watched
 returns-then-not-wants_more-clause-watched g c =
     ends_at_limit g.E.Environment.serves g.V.Watcher.sees g.V.Watcher.wants protected_reads ProtectedWrites c.args.limit
-    _ _ _ _ _ _ _ _ c.loop-steps.steps c.loop-steps.steps refl (omega (arith, c.loop-steps-test.true))
+    _ _ _ _ _ _ _ _ _ c.loop-steps.steps c.loop-steps.steps refl (omega (arith, c.loop-steps-test.true))
     (no_more _ (sym c.wants_more.ensures ∙ c.if-not-wants_more.true)) c.loop-steps.invariant.leads

@@ -8,6 +8,6 @@ abbrev pub invariant-loop-steps : goal.invariant-loop-steps
 invariant-loop-steps g l =
     let state = state_in protected_bytes protected_writable in
     record {
-      leads : Leads g.E.Environment.serves g.V.Watcher.sees g.V.Watcher.wants protected_reads ProtectedWrites l.fn.environment (state l.fn.executor) l.fn.watcher l.fn.executor.mem.now l.steps l.environment (state l.executor) l.watcher l.executor.mem.now;
+      leads : Leads g.E.Environment.serves g.V.Watcher.sees g.V.Watcher.wants protected_reads ProtectedWrites l.fn.environment (state l.fn.executor) l.fn.watcher l.fn.executor.mem.now l.steps l.reservation l.environment (state l.executor) l.watcher l.executor.mem.now;
       rest : KeepsTheRest protected_layout l.fn.executor l.executor;
     }

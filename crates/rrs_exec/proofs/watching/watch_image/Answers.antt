@@ -1,13 +1,13 @@
 -- The watched run begins in the image, with the heap that was set.
-use Rattle.std.proofs.Common.{subst, refl}
+use Rattle.std.proofs.Common.{subst, refl, false}
 use Rattle.rrs_lib.specs.Machine.{State, state_of}
 use Rattle.rrs_lib.specs.Executor.{state_in}
 use Rattle.rrs_exec.specs.ProcessMemories.{process_bytes, process_writable}
 use Rattle.rrs_exec.specs.Protection.{protected_bytes, protected_writable}
 use Rattle.rrs_exec.specs.declared.protected.ProtectedMemory.{ProtectedMemory}
-use Rattle.rrs_fast.specs.Serving.{Served}
 use Rattle.rrs_linux.specs.declared.Heap.{Heap}
 use Rattle.rrs_linux.specs.SystemCalls.{Serves}
+use Rattle.rrs_exec.specs.Mending.{Mending}
 use Rattle.rrs_exec.specs.Watching.{Shown, start_in}
 use Rattle.rrs_exec.proofs.watching.watch_image.Goals as goal
 
@@ -24,7 +24,7 @@ returns g c =
     let last = state_in protected_bytes protected_writable c.run_watched-steps.new.executor in
     let from = start_in image bytes writable in
     let P : Heap → State → Type 0 = λ heap s.
-    Served serves end.ending new last watched.most (record c.args.environment.now { heap = heap }) s end.steps made.accesses in
+    Mending serves false end.ending new last watched.most (record c.args.environment.now { heap = heap }) s end.steps made.accesses in
     let Q : Heap → State → Type 0 = λ heap s.
     Shown serves g.V.Watcher.sees g.V.Watcher.wants (record c.args.environment.now { heap = heap }) s c.args.watcher.now end.ending end.steps new last c.run_watched-steps.new.watcher in
     let heaps = c.new-environment.ensures in
