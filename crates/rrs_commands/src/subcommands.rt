@@ -126,8 +126,8 @@ const TRACE: Subcommand = Subcommand {
 mem with the address of its load, or of its store with the value. The lines go to
 standard error, or to FILE (--output), which is created or made empty. With --from
 they begin at the first step at an ADDRESS, which is decimal digits, or 0x and
-hexadecimal ones, or else the name of a SYMBOL. A misaligned load or store, and an
-instruction of extension A, are faults here.
+hexadecimal ones, or else the name of a SYMBOL. A load or a store at a misaligned
+address has one line, with its whole access.
 
 With --board PROGRAM is firmware, which runs as rrs board does, and the lines are those
 of spike -l --log-commits: with the privilege mode, the CSR that an instruction wrote,
@@ -156,8 +156,7 @@ many of its instructions were executed, how many it has, how often it was entere
 how many steps were made in it, those first that never ran. With --annotate it writes
 the disassembly, with a count before each instruction. It goes to standard error, or to
 FILE (--output), and with --callgrind the counts by function and by call go to a FILE
-in Callgrind's profile format, which callgrind_annotate and KCachegrind read. A
-misaligned load or store, and an instruction of extension A, are faults here.
+in Callgrind's profile format, which callgrind_annotate and KCachegrind read.
 
 With --board PROGRAM is firmware, which runs as rrs board does, and the functions are
 those of the executable FILE, where --symbols names one, as vmlinux is of a kernel's

@@ -118,7 +118,8 @@ log_text from [] = []
 log_text from (e ∷ entries) =
     lines_from (still_from from e.pc) e.lines ++ log_text (still_from from e.pc) entries
 
--- A run is one of `execute_process` with so many steps, and its log is what was written.
+-- A run is one of `execute_process` whose misaligned addresses are not strict, with so many steps,
+-- and its log is what was written.
 pub record TracesProcess {R W E : Type 0} (remaining : R → Option (List ℕ))
     (contents : W → Option (List ℕ)) (errors_of : E → Option (List ℕ))
     (file : List ℕ) (arguments variables : List (List ℕ)) (wanted limit : ℕ)

@@ -66,7 +66,8 @@ pub record Covers (records : List Retired) (c : Coverage) : Type 0 where
   pub elsewhere : c.elsewhere
       ≡ capped (count_by (begins_elsewhere c.base (length c.counts.items)) records)
 
--- A run is one of `execute_process` with so many steps, and the counts are those of its steps.
+-- A run is one of `execute_process` whose misaligned addresses are not strict, with so many steps,
+-- and the counts are those of its steps.
 pub record CoversProcess {R W E : Type 0} (remaining : R → Option (List ℕ))
     (contents : W → Option (List ℕ)) (errors_of : E → Option (List ℕ))
     (file : List ℕ) (arguments variables : List (List ℕ)) (wanted limit : ℕ)

@@ -1,12 +1,13 @@
--- The records of a run: what each of its steps retired, in order, and after them that of a fault.
-use Rattle.std.specs.Prelude.{◌≡◌, ℕ, List, [], ◌∷◌, ◌++◌, Bool, true, Option}
+-- The records of a run: what each of its steps retired, in order, and after them that of a fault. A
+-- step that is carried out after its fault has two: that of the fault, and its own behind it.
+use Rattle.std.specs.Prelude.{◌≡◌, ℕ, List, [], ◌∷◌, ◌++◌, Bool, true, false, Option}
 use Rattle.rrs_trace.specs.declared.retired.Retired.{Retired}
 use Rattle.rrs_fast.specs.declared.serving.Ending.{Ending}
-use Rattle.rrs_fast.specs.Serving.{Served}
 use Rattle.rrs_linux.specs.declared.Process.{Process}
 use Rattle.rrs_linux.specs.declared.host_writer.HostWriter.{HostWriter}
 use Rattle.rrs_linux.specs.declared.host_side.HostSide.{HostSide}
 use Rattle.rrs_linux.specs.SystemCalls.{Serves}
+use Rattle.rrs_exec.specs.Mending.{Mending}
 use Rattle.rrs_exec.specs.Processes.{heap_of, RunsProcess}
 use Rattle.rrs_exec.specs.Watching.{Shown, start_in}
 
@@ -23,8 +24,8 @@ pub record RunsWithRecords {R W E : Type 0} (remaining : R → Option (List ℕ)
     (file : List ℕ) (arguments variables : List (List ℕ)) (wanted limit : ℕ)
     (old new : Process R (HostWriter W) (HostWriter E) HostSide)
     (steps pc : ℕ) (ending : Ending) (records : List Retired) : Type 0 where
-  pub runs : RunsProcess (Served (Serves remaining contents errors_of))
-      file arguments wanted limit old new steps pc ending
+  pub runs : RunsProcess (Mending (Serves remaining contents errors_of) false)
+      file arguments variables wanted limit old new steps pc ending
   pub shown : Shown (Serves remaining contents errors_of) keeps wants_all
       (record old { heap = heap_of runs.image })
       (start_in runs.image runs.bytes runs.writable) []

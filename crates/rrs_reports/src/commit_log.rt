@@ -205,6 +205,10 @@ impl<'a, W: Write> Watcher for CommitLog<'a, W> {
         answer
     }
 
+    fn see_mended(&mut self, retired: &Retired) {
+        self.see(retired);
+    }
+
     fn wants_more(&self) -> bool {
         !self.is_broken
     }
@@ -219,8 +223,10 @@ pub enum TraceError {
     Output,
 }
 
-/// Runs a file's bytes as [execute_process](rrs_exec::execute_process) does, and writes the commit
-/// log: a line for each step, from the first one at the address `from` on, if there is one.
+/// Runs a file's bytes as [execute_process](rrs_exec::execute_process) does where misaligned
+/// addresses are not strict, and writes the commit log: a line for each step, from the first one at
+/// the address `from` on, if there is one. A load or a store at a misaligned address has its whole
+/// access there.
 ///
 /// # Errors
 ///

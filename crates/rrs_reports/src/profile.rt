@@ -12,13 +12,14 @@ ghost use Rattle.rrs_reports.specs.Coverages.{Counts, CoversProcess, is_step, wo
 
 use crate::calls::Calls;
 use crate::code::Code;
-use crate::commit_log::ECALL;
+use crate::commit_log::{ECALL, committed_word};
 use crate::coverage::Coverage;
 use rrs_exec::{ImageError, KeptMemory, ProcessEnd, Progress, Watcher, watch_process};
 use rrs_fast::step_cached;
 use rrs_lib::instruction_executor::{InstructionException, InstructionExecutor};
 use rrs_lib::{MemAccessSize, Memory};
 use rrs_linux::Linux;
+use rrs_trace::Retired;
 use std::alloc::{AllocError, Global};
 use std::io::{Read, Write};
 
@@ -153,13 +154,22 @@ impl Watcher for Profile<'_, '_> {
         answer
     }
 
+    /// The word is no jump.
+    fn see_mended(&mut self, retired: &Retired) {
+        match committed_word(retired) {
+            Some(_) => self.count(retired.order, retired.pc_rdata, 0),
+            None => {}
+        }
+    }
+
     fn wants_more(&self) -> bool {
         true
     }
 }
 
-/// Runs a file's bytes as [execute_process](rrs_exec::execute_process) does, and gives what the run
-/// covered of its code. A count is the number of steps of the run whose pc a word has.
+/// Runs a file's bytes as [execute_process](rrs_exec::execute_process) does where misaligned
+/// addresses are not strict, and gives what the run covered of its code. A count is the number of
+/// steps of the run whose pc a word has.
 ///
 /// # Errors
 ///

@@ -125,12 +125,23 @@ const PROCESS: &[u8] = b"\x7f\x45\x4c\x46\x01\x01\x01\x00\x00\x00\x00\x00\x00\x0
     \x13\x05\x70\x00\x37\x06\x01\x00\x23\x20\xa6\x00\
     \x83\x25\x06\x00\x93\x08\xd0\x05\x73\x00\x00\x00";
 
+/// Such an executable whose addresses are misaligned, and which has an instruction of extension A:
+/// addi x10, x0, 7 / lui x12, 0x10 / lw x11, 1(x12) / sh x10, 3(x12) / amoadd.w x13, x10, (x12)
+/// / addi x17, x0, 93 / ecall.
+const MENDED: &[u8] = b"\x7f\x45\x4c\x46\x01\x01\x01\x00\x00\x00\x00\x00\x00\x00\x00\x00\
+    \x02\x00\xf3\x00\x01\x00\x00\x00\x54\x00\x01\x00\x34\x00\x00\x00\
+    \x00\x00\x00\x00\x00\x00\x00\x00\x34\x00\x20\x00\x01\x00\x28\x00\x00\x00\x00\x00\
+    \x01\x00\x00\x00\x00\x00\x00\x00\x00\x00\x01\x00\x00\x00\x01\x00\
+    \x70\x00\x00\x00\x70\x00\x00\x00\x07\x00\x00\x00\x00\x10\x00\x00\
+    \x13\x05\x70\x00\x37\x06\x01\x00\x83\x25\x16\x00\xa3\x11\xa6\x00\
+    \xaf\x26\xa6\x00\x93\x08\xd0\x05\x73\x00\x00\x00";
+
 /// A source.
 const SOURCE: &[u8] = b"    addi x1, x0, 7\n    .data\n    .byte 5, 6, 7, 8, 9\n";
 
-/// Files of a program, of jal x0, 0, which jumps to itself, of an executable, and of sources. None
-/// can be written.
-const FILES: [Contents<'static>; 6] = [
+/// Files of a program, of jal x0, 0, which jumps to itself, of executables, and of sources. None can
+/// be written.
+const FILES: [Contents<'static>; 7] = [
     Contents {
         name: "program",
         bytes: THREE_WORDS,
@@ -144,6 +155,11 @@ const FILES: [Contents<'static>; 6] = [
     Contents {
         name: "process",
         bytes: PROCESS,
+        fails: false,
+    },
+    Contents {
+        name: "mended",
+        bytes: MENDED,
         fails: false,
     },
     Contents {
@@ -798,6 +814,17 @@ const FIRST_LINES: &str = "core   0: 3 0x00010054 (0x00700513) x10 0x00000007\n\
     core   0: 3 0x0001005c (0x00a62023) mem 0x00010000 0x00000007\n\
     core   0: 3 0x00010060 (0x00062583) x11 0x00000007 mem 0x00010000\n";
 
+/// The log of `mended`, in Spike's form: the steps that the kit makes.
+const MENDED_LINES: &str = "core   0: 3 0x00010054 (0x00700513) x10 0x00000007\n\
+    core   0: 3 0x00010058 (0x00010637) x12 0x00010000\n\
+    core   0: 3 0x0001005c (0x00162583) x11 0x01464c45 mem 0x00010001\n";
+
+/// And those behind them.
+const MENDED_ENDS: &str = "core   0: 3 0x00010060 (0x00a611a3) mem 0x00010003 0x0007\n\
+    core   0: 3 0x00010064 (0x00a626af) x13 0x074c457f mem 0x00010000 mem 0x00010000 0x074c4586\n\
+    core   0: 3 0x00010068 (0x05d00893) x17 0x0000005d\n\
+    core   0: 3 0x0001006c (0x00000073)\n";
+
 /// Words of a command line, the status, what is said, and how the report begins and ends.
 type Reported = (
     &'static [&'static [u8]],
@@ -807,7 +834,7 @@ type Reported = (
     &'static str,
 );
 
-static REPORTED: [Reported; 9] = [
+static REPORTED: [Reported; 11] = [
     (&[b"rrs", b"gdb", b"--raw", b"process"], 0, "", "", ""),
     (
         &[b"rrs", b"gdb", b"process", b"--raw", b"-x"],
@@ -867,6 +894,20 @@ static REPORTED: [Reported; 9] = [
         "rrs trace: limit\n",
         "core   0: 3 0x00010064 (0x05d00893) x17 0x0000005d\n",
         "core   0: 3 0x00010064 (0x05d00893) x17 0x0000005d\n",
+    ),
+    (
+        &[b"rrs", b"trace", b"mended"],
+        7,
+        "",
+        MENDED_LINES,
+        MENDED_ENDS,
+    ),
+    (
+        &[b"rrs", b"cover", b"mended"],
+        7,
+        "",
+        "executed       of      entered        steps  function\n",
+        "            7  (all)\n",
     ),
     (
         &[b"rrs", b"cover", b"process"],
