@@ -3,3 +3,4 @@ pub mod BoardSessions
 pub mod Covering
 pub mod Logging
 pub mod Unrecorded
+pub mod Writing

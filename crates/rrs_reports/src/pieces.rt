@@ -10,12 +10,16 @@ use std::io::{self, Write};
 /// What pieces of text are written to. Behind a write that fails nothing more is written.
 #[derive(Drop)]
 pub struct Pieces<'a, W: Write> {
-    out: &'a mut W,
+    pub(crate) out: &'a mut W,
     /// What the writes gave up to now: the error of the one that failed, if one did.
-    written: io::Result<()>,
+    pub(crate) written: io::Result<()>,
 }
 
 impl<'a, W: Write> Pieces<'a, W> {
+    ghost use Rattle.std.specs.Prelude.{◌++◌};
+    ghost use Rattle.rrs_reports.specs.Profiles.{Writes, WritesSome};
+    ghost use Rattle.rrs_reports.specs.ShownNames.{shown_name};
+
     /// Pieces that a writer takes.
     pub fn new(out: &'a mut W) -> Pieces<'a, W> {
         Pieces {
@@ -25,28 +29,44 @@ impl<'a, W: Write> Pieces<'a, W> {
     }
 
     /// Writes bytes.
-    fn bytes(&mut self, bytes: &[u8]) {
+    fn bytes(&mut self, bytes: &[u8])
+        ensures { Writes W.contents self.old bytes.now self.new }
+    {
         if self.written.is_ok() {
             self.written = self.out.write_all(bytes);
         }
     }
 
     /// Writes a text.
-    pub fn text(&mut self, text: &str) {
+    pub fn text(&mut self, text: &str)
+        ensures { Writes W.contents self.old text.now self.new }
+    {
         self.bytes(text.as_bytes());
     }
 
-    /// Writes a name as it is shown, which may be any bytes, between two texts.
-    pub fn name(&mut self, before: &str, name: &[u8], behind: &str) {
-        self.text(before);
+    /// Writes a name as it is shown.
+    fn shown(&mut self, name: &[u8])
+        ensures { Writes W.contents self.old (shown_name name.now) self.new }
+    {
         if self.written.is_ok() {
             self.written = write!(self.out, "{}", ShownName { name });
         }
+    }
+
+    /// Writes a name as it is shown, which may be any bytes, between two texts.
+    pub fn name(&mut self, before: &str, name: &[u8], behind: &str)
+        ensures { Writes W.contents self.old
+            (before.now ++ (shown_name name.now ++ behind.now)) self.new }
+    {
+        self.text(before);
+        self.shown(name);
         self.text(behind);
     }
 
     /// Writes a number in decimal, after a text.
-    pub fn number(&mut self, before: &str, number: u64) {
+    pub fn number(&mut self, before: &str, number: u64)
+        ensures { WritesSome W.contents self.old self.new }
+    {
         self.text(before);
         self.text(Buffer::new().format(number));
     }
@@ -54,6 +74,7 @@ impl<'a, W: Write> Pieces<'a, W> {
     /// Writes a word in hexadecimal, with zeros in front up to so many digits, after a text.
     pub fn hexadecimal(&mut self, before: &str, least: usize, word: u32)
         requires { least ≤ 8 }
+        ensures { WritesSome W.contents self.old self.new }
     {
         self.text(before);
         self.text(hexadecimal_digits(least, word).as_str());
