@@ -1,6 +1,8 @@
 //! Spike's commit log of a board.
 
-ghost use Rattle.std.specs.Prelude.{◌≡◌, ◌+◌, ◌≤◌, ◌++◌, [], ◌∷◌, length, IfOk};
+ghost use Rattle.std.specs.Prelude.{◌≡◌, ◌+◌, ◌≤◌, ◌++◌, [], ◌∷◌, length, IfOk, Some, true, false};
+ghost use Rattle.rrs_board.specs.declared.effects.BoardEvent.{BoardEvent};
+ghost use Rattle.rrs_board.specs.Effects.{waits_for_input};
 ghost use Rattle.rrs_reports.specs.BoardLogs.{csr_text, exception_name, interrupt_name, trap_text, has_value, value_line, value_text, retired_text, board_entry, TracesBoard};
 
 use crate::commit_log::{
@@ -173,6 +175,9 @@ pub enum BoardTraceError {
 /// a line for each instruction that retires, and the lines of each exception and interrupt, from the
 /// first step at the address `from` on, if there is one.
 ///
+/// The clauses: the log has the lines of the steps of the session (`traced`), and where the input is
+/// polled no session ends at a wait for it (`polled`).
+///
 /// # Errors
 ///
 /// Those of `run_at_terminal`, and a write of the log that fails.
@@ -189,6 +194,9 @@ pub fn trace_board<R: Read, W: Write, O: Write>(
         (R.remaining input.old) (R.remaining input.new)
         (W.contents output.old) (W.contents output.new) end.steps end.event board.new
         from (O.contents out.old) (O.contents out.new)) }
+    ensures polled { is_polled ≡ true → IfOk result (λ end.
+        end.event ≡ Some BoardEvent.NothingWakes
+        → waits_for_input board.new.memory.devices ≡ false) }
 {
     let mut runs = WatchedRuns {
         watcher: CommitLog {

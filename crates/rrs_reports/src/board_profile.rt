@@ -1,6 +1,8 @@
 //! What a run of a board covered of its code.
 
-ghost use Rattle.std.specs.Prelude.{IfOk};
+ghost use Rattle.std.specs.Prelude.{◌≡◌, IfOk, IfErr, Some, true, false};
+ghost use Rattle.rrs_board.specs.declared.effects.BoardEvent.{BoardEvent};
+ghost use Rattle.rrs_board.specs.Effects.{waits_for_input};
 ghost use Rattle.rrs_reports.specs.Coverages.{CoversBoard};
 
 use crate::code::Code;
@@ -63,6 +65,10 @@ pub enum BoardCoverError {
 /// covered of its code. A count is the number of steps whose pc a word has: of instructions that
 /// retire, and of calls by `ecall`.
 ///
+/// The clauses: the counts are those of the steps of the session (`covered`), where the input is
+/// polled no session ends at a wait for it (`polled`), and where there is no memory nothing is done
+/// (`untouched`).
+///
 /// # Errors
 ///
 /// Those of `run_at_terminal`, and out of memory for the counts.
@@ -79,6 +85,12 @@ pub fn cover_board<'a, 'b, R: Read, W: Write>(
         (R.remaining input.old) (R.remaining input.new)
         (W.contents output.old) (W.contents output.new) run.0.steps run.0.event board.new
         run.1.coverage) }
+    ensures polled { is_polled ≡ true → IfOk result (λ run.
+        run.0.event ≡ Some BoardEvent.NothingWakes
+        → waits_for_input board.new.memory.devices ≡ false) }
+    ensures untouched { IfErr result (λ error. error ≡ BoardCoverError.OutOfMemory
+        → (board.new ≡ board.old) × (R.remaining input.new ≡ R.remaining input.old)
+        × (W.contents output.new ≡ W.contents output.old)) }
 {
     let Ok(profile) = Profile::new(alloc, code) else {
         return Err(BoardCoverError::OutOfMemory);

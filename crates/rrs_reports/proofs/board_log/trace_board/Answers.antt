@@ -34,4 +34,5 @@ returns-else-is_broken g c =
         written = subst (λ w. Appends before (contents w) (log_text from (map board_entry k.0))) (sym same)
             (k.2.whole whole).written;
       };
+      polled = c.in-Ok.ensures.polled;
     }
