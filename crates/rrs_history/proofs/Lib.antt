@@ -5,5 +5,6 @@ mod Undoing
 mod Written
 -- Lemmas of histories.
 mod Remembering
+mod Keeping
 mod Carrying
 mod Returning

@@ -1,8 +1,9 @@
 //! The latest changes, newest first.
 
-ghost use Rattle.std.specs.Prelude.{◌≡◌, ◌∷◌, [], ◌≤◌, ◌↔◌, false, List, length, take, slice_get, IfOk, IfSome, IfNone, OnOk, OnErr, IsTrue};
+ghost use Rattle.std.specs.Prelude.{◌≡◌, ◌∷◌, [], ◌≤◌, ◌↔◌, false, List, length, take, count_by, slice_get, IfOk, IfSome, IfNone, OnOk, OnErr, IsTrue};
 ghost use Rattle.std.specs.List.{list_any};
 ghost use Rattle.rrs_history.specs.declared.change.Change.{Change};
+ghost use Rattle.rrs_lib.specs.Machine.{State};
 ghost use Rattle.rrs_lib.specs.Executor.{state_in, KeepsTheRest};
 ghost use Rattle.rrs_lib.specs.Accesses.{Access, Makes, MakesExactly};
 ghost use Rattle.rrs_lib.specs.Steps.{Step, IsOnlyStep, LastIsRegister, cleared};
@@ -14,6 +15,26 @@ use circular_buffer::HeapCircularBuffer;
 use rrs_lib::Memory;
 use rrs_lib::instruction_executor::{InstructionException, InstructionExecutor};
 use std::alloc::{AllocError, Global};
+
+/// A ring with room for so many items, which holds the first ones of another.
+///
+/// # Errors
+///
+/// Out of memory.
+pub fn newest<T: Copy>(
+    alloc: Global,
+    old: &HeapCircularBuffer<T>,
+    capacity: usize,
+) -> Result<HeapCircularBuffer<T>, AllocError>
+    ensures kept { IfOk result (λ ring. ring.items ≡ take capacity old.now.items) }
+    ensures room { IfOk result (λ ring. ring.capacity ≡ capacity) }
+{
+    let mut ring = HeapCircularBuffer::with_capacity(alloc, capacity)?;
+    let (front, back) = old.as_slices();
+    let _first = ring.fill_from_slice(front);
+    let _rest = ring.fill_from_slice(back);
+    Ok(ring)
+}
 
 /// The latest changes of a machine, as many as there is room for: the oldest go first.
 ///
@@ -69,6 +90,16 @@ impl History {
         self.ring.front().copied()
     }
 
+    /// How many steps and calls can be taken back: the change with which each began is kept.
+    ///
+    /// From any state the changes lead back to so many states (`states`).
+    pub fn steps(&self) -> usize
+        ensures begun { result ≡ count_by (λ (c : Change). c.starts) (changes self.now) }
+        ensures states { (s : State) → length (past (changes self.now) s) ≡ result }
+    {
+        self.ring.iter().filter(|change| change.starts).count()
+    }
+
     /// Whether a step can be taken back.
     #[inline]
     pub fn leads_back(&self) -> bool
@@ -86,6 +117,20 @@ impl History {
     {
         let _room = self.room();
         let _oldest = self.ring.push_front(change);
+    }
+
+    /// A history with room for this many changes, which keeps the latest ones of this one: as many
+    /// as there is room for. This one stays.
+    ///
+    /// # Errors
+    ///
+    /// `AllocError` where there is not as much memory.
+    pub fn with_room(&self, alloc: Global, capacity: usize) -> Result<History, AllocError>
+        ensures kept { IfOk result (λ h. changes h ≡ take capacity (changes self.now)) }
+        ensures room { IfOk result (λ h. room h ≡ capacity) }
+    {
+        let ring = newest(alloc, &self.ring, capacity)?;
+        Ok(History { ring })
     }
 
     /// Forgets all changes, as after a change of the machine that is not kept.

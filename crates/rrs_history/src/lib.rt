@@ -23,4 +23,4 @@ mod recorder;
 pub use ahead::look_ahead;
 pub use calls::{RecordedMemory, step_served};
 pub use change::{Change, step_noted, step_noted_parts, undo, undo_parts};
-pub use history::{History, step_back, step_recorded};
+pub use history::{History, newest, step_back, step_recorded};

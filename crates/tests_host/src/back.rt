@@ -218,6 +218,7 @@ fn leads_back(alloc: Global, kept: &Kept) -> Result<bool, AllocError> {
         }
     }
     is_right &= before.len() == 7 && history.len() == kept.changes;
+    is_right &= history.steps() == kept.steps;
     for _ in 0..9 {
         if back(&mut memory, &mut hart, &mut history) {
             is_right &= before.pop() == Some(moment_of(&memory, &hart));
@@ -235,6 +236,33 @@ fn steps_lead_back_to_the_states_before_them(rt: HostRuntime) -> Result<(), Fail
     for (row, kept) in HISTORIES.iter().enumerate() {
         let is_right = leads_back(rt.alloc(), kept)?;
         assert!(rt; is_right, "history {row}");
+    }
+    Ok(())
+}
+
+/// How many steps a history of another room keeps of the latest five of seven, and the pc after
+/// these are taken back.
+fn latest_in(alloc: Global, room: usize) -> Result<(usize, u32), AllocError> {
+    let mut memory = memory_of(alloc, &PROGRAM, 10)?;
+    let mut hart = hart_of(0, &[]);
+    let mut history = History::new(alloc, 5)?;
+    for _ in 0..7 {
+        forward(&mut memory, &mut hart, &mut history);
+    }
+    let mut latest = history.with_room(alloc, room)?;
+    let steps = latest.steps();
+    for _ in 0..7 {
+        back(&mut memory, &mut hart, &mut latest);
+    }
+    Ok((steps, hart.pc))
+}
+
+// Of another room the latest steps are kept, as many as there is room for.
+#[test]
+fn another_room_keeps_the_latest_steps(rt: HostRuntime) -> Result<(), Fail> {
+    for (room, steps, pc) in [(0, 0, 28), (3, 3, 16), (9, 5, 8)] {
+        let kept = latest_in(rt.alloc(), room)?;
+        assert!(rt; kept == (steps, pc), "room {room}");
     }
     Ok(())
 }

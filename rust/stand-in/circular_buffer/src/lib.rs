@@ -43,6 +43,11 @@ impl<T> HeapCircularBuffer<T> {
         self.items.front()
     }
 
+    /// The items in two parts, the first ones first.
+    pub fn as_slices(&self) -> (&[T], &[T]) {
+        self.items.as_slices()
+    }
+
     /// The items, the first one first.
     pub fn iter(&self) -> vec_deque::Iter<'_, T> {
         self.items.iter()
@@ -68,5 +73,14 @@ impl<T> HeapCircularBuffer<T> {
     /// Takes the first item away.
     pub fn pop_front(&mut self) -> Option<T> {
         self.items.pop_front()
+    }
+}
+
+impl<T: Copy> HeapCircularBuffer<T> {
+    /// Puts items after the last, as many as there is room for. Returns how many.
+    pub fn fill_from_slice(&mut self, other: &[T]) -> usize {
+        let count = other.len().min(self.capacity - self.items.len());
+        self.items.extend(&other[..count]);
+        count
     }
 }
