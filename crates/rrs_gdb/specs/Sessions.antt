@@ -1,6 +1,6 @@
 -- What a packet may change, by its letter (gdb's manual, "Remote Serial Protocol", "Packets"). Most
 -- packets ask, and change nothing of the program.
-use Rattle.std.specs.Prelude.{◌≡◌, ◌≢◌, ◌⊎◌, ℕ, zero, suc, ◌+◌, ◌-◌, ◌*◌, ◌%◌, ◌^◌, ◌<◌, ◌≤◌, List, [], ◌++◌, Contains, map, string_bytes, Bool, true, false, drop, take, length, slice_index, nat_lt, if◌then◌else◌, Option, Some, None, Ok, Err, IsOk, codes}
+use Rattle.std.specs.Prelude.{◌≡◌, ◌≢◌, ◌⊎◌, ℕ, zero, suc, ◌+◌, ◌-◌, ◌*◌, ◌%◌, ◌^◌, ◌<◌, ◌≤◌, List, [], ◌∷◌, ◌++◌, Contains, count_by, map, string_bytes, Bool, true, false, drop, take, length, slice_index, nat_lt, if◌then◌else◌, Option, Some, None, Ok, Err, IsOk, codes}
 use Rattle.std.specs.Fmt.{digits}
 use Rattle.std.specs.Io.KnownBytes.{Appends}
 use Rattle.hex.specs.Hex.{decode_of, decode_sized}
@@ -12,6 +12,7 @@ use Rattle.rrs_lib.specs.Accesses.{Access}
 use Rattle.rrs_lib.specs.Machine.{State, reg, with_pc}
 use Rattle.rrs_linux.specs.Recording.{Recording, Records}
 use Rattle.rrs_history.specs.Calls.{IsServedStep, RemembersCall}
+use Rattle.rrs_history.specs.declared.change.Change.{Change}
 use Rattle.rrs_gdb.specs.declared.breaks.Break.{Break}
 use Rattle.rrs_gdb.specs.declared.breaks.Break.TheVariants as Place
 use Rattle.rrs_gdb.specs.declared.breaks.Breaks.{Breaks}
@@ -305,9 +306,15 @@ abbrev pub on_or_off : Bool → List ℕ
 on_or_off true = codes "on"
 on_or_off false = codes "off"
 
--- how a setting stands
+-- how many steps and calls can be taken back: those whose first change is kept
+abbrev pub steps_kept : History → ℕ
+steps_kept h = count_by (λ (c : Change). c.starts) (changes h)
+
+-- how a setting stands: of the steps, how many were made, and how many can be taken back
 abbrev pub value_text : SessionState → Setting → List ℕ
-value_text s Steps = digits 10 false s.steps
+value_text s Steps =
+    digits 10 false s.steps ++ codes ", of which " ++ digits 10 false (steps_kept s.history)
+    ++ codes " can be taken back"
 value_text s Limit = digits 10 false s.settings.limit
 value_text s HistoryRoom = digits 10 false s.settings.history
 value_text s StopAtExit = on_or_off s.settings.stops_at_exit
@@ -323,14 +330,17 @@ Accepts Limit argument = IsDecimal argument
 Accepts HistoryRoom argument = IsDecimal argument
 Accepts StopAtExit argument = (argument ≡ codes "on") ⊎ (argument ≡ codes "off")
 
--- it is set: the most steps of a `continue`; how many steps the history keeps, of which it is
--- emptied; or whether the program stops before it exits
+-- It is set: the most steps of a `continue`; for how many changes the history has room, of which
+-- the latest stay, with what the environment had before each call; or whether the program stops
+-- before it exits.
 abbrev pub Sets : Setting → List ℕ → SessionState → SessionState → Type 0
 Sets Steps argument s t = ⊥
 Sets Limit argument s t = t ≡ record s { settings = record s.settings { limit = decimal argument } }
 Sets HistoryRoom argument s t =
     (t.settings ≡ record s.settings { history = decimal argument })
-    × (changes t.history ≡ []) × (room t.history ≡ decimal argument)
+    × (changes t.history ≡ take (decimal argument) (changes s.history))
+    × (t.calls.items ≡ take (decimal argument) s.calls.items)
+    × (room t.history ≡ decimal argument)
 Sets StopAtExit argument s t =
     (is_on : Bool) × (argument ≡ on_or_off is_on)
     × (t ≡ record s { settings = record s.settings { stops_at_exit = is_on } })
@@ -344,7 +354,18 @@ SetsOrTells setting argument s t old new =
     ⊎ ((setting ≡ HistoryRoom) × (t ≡ s)
     × (new ≡ old ++ text_of (codes "history: out of memory\n")))
 
--- A setting is shown, or set and then shown.
+-- what `help` tells, and any other command that is none of these
+abbrev pub help_text : List ℕ
+help_text =
+    codes "monitor steps: how many steps were made, and can be taken back\n"
+    ++ codes "monitor limit [N]: the most steps of a continue\n"
+    ++ codes "monitor history [N]: the most steps that are kept, of which the latest stay\n"
+    ++ codes "monitor stop-at-exit [on|off]: whether the program stops once where it is to exit\n"
+    ++ codes "catch syscall: where gdb does not have it, break at an ecall, "
+    ++ codes "as 'break *0x10204 if $a7 == 64'\n"
+
+-- A setting is shown, or set and then shown. By another word, or an argument that can't be, gdb is
+-- told what there is.
 pub record Monitors (word argument : List ℕ) (s t : SessionState) (old new : List ℕ)
     : Type 0 where
   pub shown : (setting : Setting) → word ≡ word_of setting → argument ≡ []
@@ -352,6 +373,9 @@ pub record Monitors (word argument : List ℕ) (s t : SessionState) (old new : L
   pub set : (setting : Setting) → word ≡ word_of setting → Accepts setting argument
       → SetsOrTells setting argument s t old new
   pub kept : ((setting : Setting) → word ≡ word_of setting → ¬ Accepts setting argument) → t ≡ s
+  pub helped : ((setting : Setting) → word ≢ word_of setting) → new ≡ old ++ text_of help_text
+  pub refused : (setting : Setting) → word ≡ word_of setting → argument ≢ []
+      → ¬ Accepts setting argument → new ≡ old ++ text_of help_text
 
 -- `QCatchSyscalls:0` has no call caught, `1` all, and `1;n;n` those of these numbers.
 pub data Catches (text : List ℕ) (caught : Caught) : Type 0 where

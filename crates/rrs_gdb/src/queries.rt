@@ -8,7 +8,7 @@ ghost use Rattle.rrs_gdb.specs.declared.queries.Setting.{Setting};
 ghost use Rattle.rrs_gdb.specs.declared.state.Caught.{Caught};
 ghost use Rattle.rrs_gdb.specs.Packets.{AreNumbers, IsDecimal, before, behind};
 ghost use Rattle.rrs_gdb.specs.Shown.{text_of};
-ghost use Rattle.rrs_gdb.specs.Sessions.{Accepts, BreaksKept, Catches, Monitors, SessionKept, Sets, SetsOrTells, ShowsPart, Tells, on_or_off, setting_line, value_text, word_of};
+ghost use Rattle.rrs_gdb.specs.Sessions.{Accepts, BreaksKept, Catches, Monitors, SessionKept, Sets, SetsOrTells, ShowsPart, Tells, help_text, on_or_off, setting_line, value_text, word_of};
 
 use crate::framing::push_bytes;
 use crate::numbers::{address_and_length, behind, cut, cut_or_all, decimal_of, number_of};
@@ -159,10 +159,11 @@ fn push_setting(
 }
 
 /// What `monitor help` says.
-const HELP: &[u8] = b"monitor steps: how many steps were made\n\
+const HELP: &[u8] = b"monitor steps: how many steps were made, and can be taken back\n\
 monitor limit [N]: the most steps of a continue\n\
-monitor history [N]: how many steps are kept, and can be taken back\n\
-monitor stop-at-exit [on|off]: whether the program stops once where it is to exit\n";
+monitor history [N]: the most steps that are kept, of which the latest stay\n\
+monitor stop-at-exit [on|off]: whether the program stops once where it is to exit\n\
+catch syscall: where gdb does not have it, break at an ecall, as 'break *0x10204 if $a7 == 64'\n";
 
 /// What is said where there is no memory for a history.
 const NO_HISTORY: &[u8] = b"history: out of memory\n";
@@ -220,12 +221,24 @@ fn on_or_off(is_on: bool) -> &'static str
     if is_on { "on" } else { "off" }
 }
 
+/// How many steps were made, and how many can be taken back.
+fn steps_text(alloc: Global, state: &SessionState<'_>) -> Result<String, AllocError>
+    ensures { IfOk result (λ text. string_bytes text ≡ value_text state.now Setting.Steps) }
+{
+    let mut text = number_text(alloc, state.steps)?;
+    let kept = number_text(alloc, state.history.steps() as u64)?;
+    text.push_str(", of which ")?;
+    text.push_str(&kept)?;
+    text.push_str(" can be taken back")?;
+    Ok(text)
+}
+
 /// How a setting stands, as it is shown.
 fn value_of(alloc: Global, state: &SessionState<'_>, setting: Setting) -> Result<String, AllocError>
     ensures { IfOk result (λ text. string_bytes text ≡ value_text state.now setting) }
 {
     match setting {
-        Setting::Steps => number_text(alloc, state.steps),
+        Setting::Steps => steps_text(alloc, state),
         Setting::Limit => number_text(alloc, state.settings.limit),
         Setting::HistoryRoom => number_text(alloc, state.settings.history as u64),
         Setting::StopAtExit => String::from_str(alloc, on_or_off(state.settings.stops_at_exit)),
@@ -251,6 +264,7 @@ fn set_room(
     ensures kept { OnErr result (state.new ≡ state.old) }
     ensures refused { IfErr result (λ told. IsDecimal argument.now
         → told.now ≡ codes "history: out of memory\n") }
+    ensures helped { IfErr result (λ told. ¬ IsDecimal argument.now → told.now ≡ help_text) }
 {
     let Some(room) = decimal_of(argument) else {
         return Err(HELP);
@@ -271,6 +285,7 @@ fn set_stop_at_exit(state: &mut SessionState<'_>, argument: &[u8]) -> Result<(),
     ensures only { OnOk result (Accepts Setting.StopAtExit argument.now) }
     ensures kept { OnErr result (state.new ≡ state.old) }
     ensures refused { OnErr result (¬ Accepts Setting.StopAtExit argument.now) }
+    ensures helped { IfErr result (λ told. told.now ≡ help_text) }
 {
     state.settings.stops_at_exit = match argument {
         b"on" => true,
@@ -287,6 +302,7 @@ fn set_limit(state: &mut SessionState<'_>, argument: &[u8]) -> Result<(), &'stat
     ensures only { OnOk result (IsDecimal argument.now) }
     ensures kept { OnErr result (state.new ≡ state.old) }
     ensures refused { OnErr result (¬ IsDecimal argument.now) }
+    ensures helped { IfErr result (λ told. told.now ≡ help_text) }
 {
     let Some(limit) = decimal_of(argument) else {
         return Err(HELP);
@@ -312,6 +328,8 @@ fn set_to(
     ensures kept { OnErr result (state.new ≡ state.old) }
     ensures refused { IfErr result (λ told. Accepts setting argument.now
         → (setting ≡ Setting.HistoryRoom) × (told.now ≡ codes "history: out of memory\n")) }
+    ensures helped { IfErr result (λ told. ¬ Accepts setting argument.now
+        → told.now ≡ help_text) }
 {
     match setting {
         Setting::Steps => Err(HELP),
@@ -336,6 +354,8 @@ fn monitor_setting(
     ensures set { OnOk result (Accepts setting argument.now
         → SetsOrTells setting argument.now state.old state.new reply.old.items reply.new.items) }
     ensures kept { ¬ Accepts setting argument.now → state.new ≡ state.old }
+    ensures helped { OnOk result (argument.now ≢ [] → ¬ Accepts setting argument.now
+        → reply.new.items ≡ reply.old.items ++ text_of help_text) }
 {
     if !argument.is_empty() {
         if let Err(refused) = set_to(alloc, state, setting, argument) {

@@ -1,6 +1,6 @@
 //! What a session keeps beside the machine.
 
-ghost use Rattle.std.specs.Prelude.{◌≡◌, ◌^◌, ◌++◌, ◌∷◌, [], true, false, IfOk, OnErr, OnOk};
+ghost use Rattle.std.specs.Prelude.{◌≡◌, ◌^◌, ◌++◌, ◌∷◌, [], take, true, false, IfOk, OnErr, OnOk};
 ghost use Rattle.std.specs.Bool.{OnTrue, OnFalse};
 ghost use Rattle.std.specs.Fmt.{digits};
 ghost use Rattle.rrs_history.specs.Histories.{changes, room as room_of};
@@ -14,7 +14,7 @@ use crate::breaks::{Breaks, Watch};
 use crate::framing::push_hex;
 use circular_buffer::HeapCircularBuffer;
 use rrs_fast::is_stop;
-use rrs_history::History;
+use rrs_history::{History, newest};
 use std::alloc::{AllocError, Global};
 
 /// What `monitor` sets.
@@ -219,7 +219,8 @@ impl<'a> SessionState<'a> {
         self.has_told_exit = false;
     }
 
-    /// Sets how much is kept, and forgets what was kept.
+    /// Sets how much is kept. Of what was kept the latest stays, as much as there is room for: the
+    /// changes, and what the environment had before each call.
     ///
     /// # Errors
     ///
@@ -228,12 +229,14 @@ impl<'a> SessionState<'a> {
         ensures breaks { BreaksKept self.old self.new }
         ensures set { OnOk result (self.new.settings
             ≡ record self.old.settings { history = room }) }
-        ensures emptied { OnOk result (changes self.new.history ≡ []) }
+        ensures kept { OnOk result (changes self.new.history
+            ≡ take room (changes self.old.history)) }
+        ensures calls { OnOk result (self.new.calls.items ≡ take room self.old.calls.items) }
         ensures room { OnOk result (room_of self.new.history ≡ room) }
         ensures none { OnErr result (self.new ≡ self.old) }
     {
-        let history = History::new(alloc, room)?;
-        let calls = HeapCircularBuffer::with_capacity(alloc, room)?;
+        let history = self.history.with_room(alloc, room)?;
+        let calls = newest(alloc, &self.calls, room)?;
         self.history = history;
         self.calls = calls;
         self.settings.history = room;

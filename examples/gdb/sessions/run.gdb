@@ -15,6 +15,9 @@ monitor history 100
 monitor limit 500
 continue
 monitor steps
+reverse-stepi
+monitor steps
+catch syscall
 monitor limit 1000000
 monitor stop-at-exit off
 run
