@@ -1,4 +1,5 @@
-# a scheduler: the timer's handler, CSRs by their names, an interrupt that waits until it is enabled
+# a scheduler: the timer's handler, CSRs by their names, an interrupt that waits until it is enabled,
+# and a variable that is watched by single steps
 target remote | ./rrs gdb --board scheduler.elf
 info registers pc a0 misa mtvec mstatus mie priv
 break start_task
@@ -27,6 +28,10 @@ info registers priv
 print $priv = 1
 print $priv = 3
 x/xw 0x2004000
+delete
+set can-use-hw-watchpoints 0
+watch current
+continue
 delete
 break schedule if cause == 11
 continue
