@@ -1,17 +1,15 @@
 -- What the calls that put nothing into memory do to the files of a program, where the path is read
 -- and allowed: which calls of the host are made, in order, and with which path. No other is made.
-use Rattle.std.specs.Prelude.{◌≡◌, ℕ, ◌+◌, ◌*◌, ◌<◌, ◌≤◌, ◌==◌, ◌&&◌, ◌||◌, not, bit_and, if◌then◌else◌, List, Bool, true, false, set, slice_index_or, Option, Some, None, unwrap_or, Result, Ok, Err}
+use Rattle.std.specs.Prelude.{◌≡◌, ◌≢◌, ◌⊎◌, ℕ, ◌+◌, ◌-◌, ◌*◌, ◌<◌, ◌≤◌, ◌==◌, ◌&&◌, ◌||◌, not, bit_and, if◌then◌else◌, List, Bool, true, false, set, slice_index_or, Option, Some, None, unwrap_or, Ok, Err}
 use Rattle.rrs_linux.specs.Requests.{error}
 use Rattle.rrs_files.specs.declared.files.Files.{Files}
 use Rattle.rrs_files.specs.declared.folder.Status.{Status}
 use Rattle.rrs_files.specs.declared.folder.Change.{Change}
-use Rattle.rrs_files.specs.declared.folder.Change.TheVariants as Change
 use Rattle.rrs_files.specs.declared.folder.How.{How}
 use Rattle.rrs_files.specs.declared.folder.NameChange.{NameChange}
-use Rattle.rrs_files.specs.declared.folder.NameChange.TheVariants as NameChange
 use Rattle.rrs_files.specs.declared.paths.Named.{Named}
 use Rattle.rrs_files.specs.declared.paths.Named.TheVariants.{There, Missing, Stopped}
-use Rattle.rrs_files.specs.Descriptors.{IsOpen, IsClosed, IsFirstFree, IsFull, kept_flags}
+use Rattle.rrs_files.specs.Descriptors.{AreUsed, IsOpen, IsClosed, IsFirstFree, IsFull, IsUnused, IsUsed, is_closed_stream, kept_flags}
 use Rattle.rrs_files.specs.Events.{Did, Opened, Closed, Told, Changed, NameChanged, Renamed}
 use Rattle.rrs_files.specs.Paths.{Walks, kind}
 use Rattle.rrs_files.specs.Requests.{how_of, not_served, changes}
@@ -122,60 +120,126 @@ module _ {F : Type 0} (did : Did F) where
         → new ≡ old → answer ≡ error 30 → Opens path flags mode old new answer
     HasNoPlace :
         not_served flags ≡ false → (old.is_read_only && changes (how_of flags mode)) ≡ false
-        → IsFull old.descriptors.are_open
+        → IsFull old.descriptors.files ⊎ AreUsed old.descriptors.files
         → new ≡ old → answer ≡ error 24 → Opens path flags mode old new answer
     IsRefused : (named : Named) (folder : F)
         → not_served flags ≡ false → (old.is_read_only && changes (how_of flags mode)) ≡ false
         → Walks did path old.folder folder named → opening named (how_of flags mode) ≡ Some answer
         → new ≡ record old { folder = folder } → Opens path flags mode old new answer
-    HasFailed : (named : Named) (place : ℕ) (mid folder : F)
+    HasFailed : (named : Named) (place at : ℕ) (mid folder : F)
         → not_served flags ≡ false → (old.is_read_only && changes (how_of flags mode)) ≡ false
-        → IsFirstFree old.descriptors.are_open place
+        → IsFirstFree old.descriptors.files place → IsUnused old.descriptors.files at
         → Walks did path old.folder mid named → opening named (how_of flags mode) ≡ None
-        → did mid (Opened place path (how_of flags mode) (Some answer)) folder
+        → did mid (Opened at path (how_of flags mode) (Some answer)) folder
         → new ≡ record old { folder = folder } → Opens path flags mode old new answer
-    IsOpened : (named : Named) (place : ℕ) (mid folder : F)
+    IsOpened : (named : Named) (place at : ℕ) (mid folder : F)
         → not_served flags ≡ false → (old.is_read_only && changes (how_of flags mode)) ≡ false
-        → IsFirstFree old.descriptors.are_open place
+        → IsFirstFree old.descriptors.files place → IsUnused old.descriptors.files at
         → Walks did path old.folder mid named → opening named (how_of flags mode) ≡ None
-        → did mid (Opened place path (how_of flags mode) None) folder
+        → did mid (Opened at path (how_of flags mode) None) folder
         → new ≡ record old {
           folder = folder;
           descriptors = record {
-            are_open = set old.descriptors.are_open place true;
+            files = set old.descriptors.files place (Some at);
             flags = set old.descriptors.flags place (kept_flags flags);
+            are_closed = old.descriptors.are_closed;
           };
         }
         → answer ≡ place + 3 → Opens path flags mode old new answer
 
   -- close: the file of the descriptor, and no other
   pub data Closes (descriptor : ℕ) (old new : Files F) (answer : ℕ) : Type 0 where
-    IsClosedNow : (place : ℕ) (folder : F)
-        → IsOpen old.descriptors.are_open descriptor place
-        → did old.folder (Closed place) folder
+    IsClosedNow : (at : ℕ) (left : List (Option ℕ)) (folder : F)
+        → IsOpen old.descriptors.files descriptor at
+        → left ≡ set old.descriptors.files (descriptor - 3) None → (IsUsed left at → ⊥)
+        → did old.folder (Closed at) folder
         → new ≡ record old {
           folder = folder;
-          descriptors = record old.descriptors {
-            are_open = set old.descriptors.are_open place false;
-          };
+          descriptors = record old.descriptors { files = left };
         }
+        → answer ≡ 0 → Closes descriptor old new answer
+    -- another descriptor has the file too, which stays open
+    IsStillOpen : (at : ℕ) (left : List (Option ℕ))
+        → IsOpen old.descriptors.files descriptor at
+        → left ≡ set old.descriptors.files (descriptor - 3) None → IsUsed left at
+        → new ≡ record old { descriptors = record old.descriptors { files = left } }
         → answer ≡ 0 → Closes descriptor old new answer
     -- EBADF is 9
     WasClosed :
-        IsClosed old.descriptors.are_open descriptor → new ≡ old → answer ≡ error 9
+        IsClosed old.descriptors.files descriptor → new ≡ old → answer ≡ error 9
         → Closes descriptor old new answer
+
+  -- close of a standard stream, which is open until the program closes it
+  pub data ClosesStream (stream : ℕ) (old new : Files F) (answer : ℕ) : Type 0 where
+    IsNoOpenStream :
+        (2 < stream) ⊎ (is_closed_stream old.descriptors.are_closed stream ≡ true)
+        → new ≡ old → answer ≡ error 9 → ClosesStream stream old new answer
+    IsClosedStream :
+        stream ≤ 2 → is_closed_stream old.descriptors.are_closed stream ≡ false
+        → new ≡ record old {
+          descriptors = record old.descriptors {
+            are_closed = set old.descriptors.are_closed stream true;
+          };
+        }
+        → answer ≡ 0 → ClosesStream stream old new answer
+
+  -- dup: the first descriptor that is free has the same file, which is opened no second time, so
+  -- that both share its position. No call of the host is made
+  pub data Copies (descriptor : ℕ) (old new : Files F) (answer : ℕ) : Type 0 where
+    IsCopied : (at place : ℕ)
+        → IsOpen old.descriptors.files descriptor at → IsFirstFree old.descriptors.files place
+        → new ≡ record old {
+          descriptors = record {
+            files = set old.descriptors.files place (Some at);
+            flags = set old.descriptors.flags place
+                (kept_flags (slice_index_or old.descriptors.flags (descriptor - 3) 0));
+            are_closed = old.descriptors.are_closed;
+          };
+        }
+        → answer ≡ place + 3 → Copies descriptor old new answer
+    HasNoPlaceToCopy : (at : ℕ)
+        → IsOpen old.descriptors.files descriptor at → IsFull old.descriptors.files
+        → new ≡ old → answer ≡ error 24 → Copies descriptor old new answer
+    NotOpenToCopy :
+        IsClosed old.descriptors.files descriptor → new ≡ old → answer ≡ error 9
+        → Copies descriptor old new answer
+
+  -- dup3: this descriptor has the same file, after it was closed, if it was open. The flags may
+  -- have O_CLOEXEC (0x80000)
+  pub data CopiesTo (descriptor to flags : ℕ) (old new : Files F) (answer : ℕ) : Type 0 where
+    HasBadFlags :
+        (descriptor ≡ to) ⊎ (bit_and flags 0xfff7ffff ≢ 0) → new ≡ old → answer ≡ error 22
+        → CopiesTo descriptor to flags old new answer
+    IsNoDescriptor :
+        (to < 3) ⊎ (67 ≤ to) → new ≡ old → answer ≡ error 9
+        → CopiesTo descriptor to flags old new answer
+    NotOpenToCopyTo :
+        IsClosed old.descriptors.files descriptor → new ≡ old → answer ≡ error 9
+        → CopiesTo descriptor to flags old new answer
+    IsCopiedTo : (at closed : ℕ) (mid : Files F)
+        → descriptor ≢ to → bit_and flags 0xfff7ffff ≡ 0 → 3 ≤ to → to < 67
+        → IsOpen old.descriptors.files descriptor at → Closes to old mid closed
+        → new ≡ record mid {
+          descriptors = record {
+            files = set mid.descriptors.files (to - 3) (Some at);
+            flags = set mid.descriptors.flags (to - 3)
+                (kept_flags (slice_index_or old.descriptors.flags (descriptor - 3) 0));
+            are_closed = mid.descriptors.are_closed;
+          };
+        }
+        → answer ≡ to → CopiesTo descriptor to flags old new answer
 
   -- ftruncate64, fsync, fdatasync and fchmod: the file of the descriptor, and no other
   pub data Changes (descriptor : ℕ) (change : Change) (old new : Files F) (answer : ℕ) : Type 0 where
     NotOpenToChange :
-        IsClosed old.descriptors.are_open descriptor → new ≡ old → answer ≡ error 9
+        IsClosed old.descriptors.files descriptor → new ≡ old → answer ≡ error 9
         → Changes descriptor change old new answer
     MayNotChange : (place : ℕ)
-        → IsOpen old.descriptors.are_open descriptor place
+        → IsOpen old.descriptors.files descriptor place
         → (old.is_read_only && needs_right change) ≡ true
         → new ≡ old → answer ≡ error 30 → Changes descriptor change old new answer
     IsChanged : (place : ℕ) (folder : F) (failed : Option ℕ)
-        → IsOpen old.descriptors.are_open descriptor place
+        → IsOpen old.descriptors.files descriptor place
         → (old.is_read_only && needs_right change) ≡ false
         → did old.folder (Changed place change failed) folder
         → new ≡ record old { folder = folder } → answer ≡ unwrap_or failed 0
@@ -184,14 +248,14 @@ module _ {F : Type 0} (did : Did F) where
   -- fchown: no owner is changed, but the file of the descriptor may have this one
   pub data Owns (descriptor owner group : ℕ) (old new : Files F) (answer : ℕ) : Type 0 where
     NotOpenToOwn :
-        IsClosed old.descriptors.are_open descriptor → new ≡ old → answer ≡ error 9
+        IsClosed old.descriptors.files descriptor → new ≡ old → answer ≡ error 9
         → Owns descriptor owner group old new answer
     HasNoOwner : (place : ℕ) (folder : F)
-        → IsOpen old.descriptors.are_open descriptor place
+        → IsOpen old.descriptors.files descriptor place
         → did old.folder (Told place (Err answer)) folder
         → new ≡ record old { folder = folder } → Owns descriptor owner group old new answer
     HasOwner : (place : ℕ) (folder : F) (status : Status)
-        → IsOpen old.descriptors.are_open descriptor place
+        → IsOpen old.descriptors.files descriptor place
         → did old.folder (Told place (Ok status)) folder
         → new ≡ record old { folder = folder } → answer ≡ owning status owner group
         → Owns descriptor owner group old new answer
@@ -244,14 +308,19 @@ module _ {F : Type 0} (did : Did F) where
   -- fcntl64 on a descriptor
   pub data Controls (descriptor command argument : ℕ) (old new : Files F) (answer : ℕ)
       : Type 0 where
+    IsOfClosedStream :
+        is_closed_stream old.descriptors.are_closed descriptor ≡ true
+        → new ≡ old → answer ≡ error 9 → Controls descriptor command argument old new answer
     IsOfStream :
-        descriptor ≤ 2 → new ≡ old
+        descriptor ≤ 2 → is_closed_stream old.descriptors.are_closed descriptor ≡ false
+        → new ≡ old
         → answer ≡ control_answer (stream_flags descriptor) command argument
         → Controls descriptor command argument old new answer
     NotOpenToControl :
-        2 < descriptor → IsClosed old.descriptors.are_open descriptor
+        2 < descriptor → IsClosed old.descriptors.files descriptor
         → new ≡ old → answer ≡ error 9 → Controls descriptor command argument old new answer
     IsControlled : (place : ℕ)
-        → IsOpen old.descriptors.are_open descriptor place → new ≡ old
-        → answer ≡ control_answer (slice_index_or old.descriptors.flags place 0) command argument
+        → IsOpen old.descriptors.files descriptor place → new ≡ old
+        → answer
+        ≡ control_answer (slice_index_or old.descriptors.flags (descriptor - 3) 0) command argument
         → Controls descriptor command argument old new answer

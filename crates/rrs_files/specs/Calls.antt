@@ -5,7 +5,7 @@ use Rattle.std.specs.Prelude.{◌≡◌, ◌⊎◌, ℕ, ◌+◌, ◌^◌, ◌<�
 use Rattle.std.specs.Int.{to_le_bytes, w64}
 use Rattle.rrs_lib.specs.Bytes.{ByteMap, little_endian}
 use Rattle.rrs_lib.specs.AccessLists.{Access}
-use Rattle.rrs_lib.specs.Machine.{State}
+use Rattle.rrs_lib.specs.Machine.{State, reg}
 use Rattle.rrs_fast.specs.Serving.{Relation}
 use Rattle.rrs_linux.specs.Giving.{GivesText}
 use Rattle.rrs_linux.specs.Requests.{error}
@@ -20,7 +20,6 @@ use Rattle.rrs_files.specs.declared.folder.Status.{Status}
 use Rattle.rrs_files.specs.declared.paths.Named.{Named}
 use Rattle.rrs_files.specs.declared.paths.Named.TheVariants.{There, Missing, Stopped}
 use Rattle.rrs_files.specs.declared.requests.FileRequest.{FileRequest}
-use Rattle.rrs_files.specs.declared.requests.FileRequest.TheVariants as FileRequest
 use Rattle.rrs_files.specs.declared.serving.WithFiles.{WithFiles}
 use Rattle.rrs_files.specs.Acts.{Opens, Closes, Changes, Owns, ChangesName, Renames, Tests, Controls}
 use Rattle.rrs_files.specs.Descriptors.{IsOpen, IsClosed}
@@ -34,17 +33,17 @@ abbrev pub most_of_file : ℕ
 most_of_file = 65536
 
 -- The path of a call is read, and it is allowed; or the error.
-pub data TakesPath (bytes : ByteMap) (are_open : List Bool) (beside a : ℕ)
+pub data TakesPath (bytes : ByteMap) (descriptors : Descriptors) (beside a : ℕ)
     (path : Result (List ℕ) ℕ) (accesses : List Access) : Type 0 where
   IsTaken : (text : List ℕ)
       → IsText bytes a (Ok text) accesses → IsAllowed text beside → path ≡ Ok text
-      → TakesPath bytes are_open beside a path accesses
+      → TakesPath bytes descriptors beside a path accesses
   IsNot : (text : List ℕ) (e : ℕ)
-      → IsText bytes a (Ok text) accesses → IsForbidden text beside are_open e → path ≡ Err e
-      → TakesPath bytes are_open beside a path accesses
+      → IsText bytes a (Ok text) accesses → IsForbidden text beside descriptors e → path ≡ Err e
+      → TakesPath bytes descriptors beside a path accesses
   HasNoText : (e : ℕ)
       → IsText bytes a (Err e) accesses → path ≡ Err e
-      → TakesPath bytes are_open beside a path accesses
+      → TakesPath bytes descriptors beside a path accesses
 
 -- the status of what a path names, or the error (ENOENT is 2, ELOOP 40); AT_SYMLINK_NOFOLLOW is
 -- 0x100
@@ -125,11 +124,11 @@ module _ {F : Type 0} (did : Did F) (writable : ℕ → Bool) (bytes bytes' : By
   pub data ByPath (does : List ℕ → Files F → Files F → ℕ → Type 0) (beside a : ℕ)
       (old new : Files F) (answer : ℕ) (accesses : List Access) : Type 0 where
     IsDone : (path : List ℕ)
-        → TakesPath bytes old.descriptors.are_open beside a (Ok path) accesses
+        → TakesPath bytes old.descriptors beside a (Ok path) accesses
         → does path old new answer → bytes' ≡ bytes
         → ByPath does beside a old new answer accesses
     IsRefused :
-        TakesPath bytes old.descriptors.are_open beside a (Err answer) accesses
+        TakesPath bytes old.descriptors beside a (Err answer) accesses
         → new ≡ old → bytes' ≡ bytes → ByPath does beside a old new answer accesses
 
   -- a call that names two files and does this to them; the second path is read after the first one
@@ -137,16 +136,16 @@ module _ {F : Type 0} (did : Did F) (writable : ℕ → Bool) (bytes bytes' : By
       (beside a beside' a' : ℕ) (old new : Files F) (answer : ℕ) (accesses : List Access)
       : Type 0 where
     AreDone : (path path' : List ℕ) (first later : List Access)
-        → TakesPath bytes old.descriptors.are_open beside a (Ok path) first
-        → TakesPath bytes old.descriptors.are_open beside' a' (Ok path') later
+        → TakesPath bytes old.descriptors beside a (Ok path) first
+        → TakesPath bytes old.descriptors beside' a' (Ok path') later
         → accesses ≡ first ++ later → does path path' old new answer → bytes' ≡ bytes
         → ByPaths does beside a beside' a' old new answer accesses
     FirstIsRefused :
-        TakesPath bytes old.descriptors.are_open beside a (Err answer) accesses
+        TakesPath bytes old.descriptors beside a (Err answer) accesses
         → new ≡ old → bytes' ≡ bytes → ByPaths does beside a beside' a' old new answer accesses
     SecondIsRefused : (path : List ℕ) (first later : List Access)
-        → TakesPath bytes old.descriptors.are_open beside a (Ok path) first
-        → TakesPath bytes old.descriptors.are_open beside' a' (Err answer) later
+        → TakesPath bytes old.descriptors beside a (Ok path) first
+        → TakesPath bytes old.descriptors beside' a' (Err answer) later
         → accesses ≡ first ++ later → new ≡ old → bytes' ≡ bytes
         → ByPaths does beside a beside' a' old new answer accesses
 
@@ -156,15 +155,15 @@ module _ {F : Type 0} (did : Did F) (writable : ℕ → Bool) (bytes bytes' : By
       (answer : ℕ) (accesses : List Access) : Type 0 where
     -- EBADF is 9, and EFAULT 14
     NotOpenToRead :
-        IsClosed old.descriptors.are_open descriptor
+        IsClosed old.descriptors.files descriptor
         → new ≡ old → bytes' ≡ bytes → accesses ≡ [] → answer ≡ error 9
         → ReadsFile descriptor from a count old new answer accesses
     ReadPassesEnd : (place : ℕ)
-        → IsOpen old.descriptors.are_open descriptor place → 2 ^ 32 < a + count
+        → IsOpen old.descriptors.files descriptor place → 2 ^ 32 < a + count
         → new ≡ old → bytes' ≡ bytes → accesses ≡ [] → answer ≡ error 14
         → ReadsFile descriptor from a count old new answer accesses
     ReadFailed : (place : ℕ) (folder : F)
-        → IsOpen old.descriptors.are_open descriptor place → a + count ≤ 2 ^ 32
+        → IsOpen old.descriptors.files descriptor place → a + count ≤ 2 ^ 32
         → did old.folder (Gave place from (min count most_of_file) (Err answer)) folder
         → new ≡ record old { folder = folder } → bytes' ≡ bytes → accesses ≡ []
         → ReadsFile descriptor from a count old new answer accesses
@@ -204,21 +203,21 @@ module _ {F : Type 0} (did : Did F) (writable : ℕ → Bool) (bytes bytes' : By
   pub data SeeksFile (descriptor offset from a : ℕ) (old new : Files F) (answer : ℕ)
       (accesses : List Access) : Type 0 where
     NotOpenToSeek :
-        IsClosed old.descriptors.are_open descriptor
+        IsClosed old.descriptors.files descriptor
         → new ≡ old → bytes' ≡ bytes → accesses ≡ [] → answer ≡ error 9
         → SeeksFile descriptor offset from a old new answer accesses
     -- EINVAL is 22
     IsFromNowhere : (place : ℕ)
-        → IsOpen old.descriptors.are_open descriptor place → 2 < from
+        → IsOpen old.descriptors.files descriptor place → 2 < from
         → new ≡ old → bytes' ≡ bytes → accesses ≡ [] → answer ≡ error 22
         → SeeksFile descriptor offset from a old new answer accesses
     SeekFailed : (place : ℕ) (folder : F)
-        → IsOpen old.descriptors.are_open descriptor place → from ≤ 2
+        → IsOpen old.descriptors.files descriptor place → from ≤ 2
         → did old.folder (Sought place from offset (Err answer)) folder
         → new ≡ record old { folder = folder } → bytes' ≡ bytes → accesses ≡ []
         → SeeksFile descriptor offset from a old new answer accesses
     IsMoved : (place position : ℕ) (folder : F)
-        → IsOpen old.descriptors.are_open descriptor place → from ≤ 2
+        → IsOpen old.descriptors.files descriptor place → from ≤ 2
         → did old.folder (Sought place from offset (Ok position)) folder
         → new ≡ record old { folder = folder }
         → PutsBytes writable bytes bytes' a (to_le_bytes w64 position) accesses answer
@@ -228,16 +227,16 @@ module _ {F : Type 0} (did : Did F) (writable : ℕ → Bool) (bytes bytes' : By
   pub data TellsFile (descriptor a : ℕ) (old new : Files F) (answer : ℕ) (accesses : List Access)
       : Type 0 where
     NotOpenToTell :
-        IsClosed old.descriptors.are_open descriptor
+        IsClosed old.descriptors.files descriptor
         → new ≡ old → bytes' ≡ bytes → accesses ≡ [] → answer ≡ error 9
         → TellsFile descriptor a old new answer accesses
     TellFailed : (place : ℕ) (folder : F)
-        → IsOpen old.descriptors.are_open descriptor place
+        → IsOpen old.descriptors.files descriptor place
         → did old.folder (Told place (Err answer)) folder
         → new ≡ record old { folder = folder } → bytes' ≡ bytes → accesses ≡ []
         → TellsFile descriptor a old new answer accesses
     IsTold : (place : ℕ) (folder : F) (status : Status)
-        → IsOpen old.descriptors.are_open descriptor place
+        → IsOpen old.descriptors.files descriptor place
         → did old.folder (Told place (Ok status)) folder
         → new ≡ record old { folder = folder }
         → PutsBytes writable bytes bytes' a (status_bytes status) accesses answer
@@ -247,22 +246,22 @@ module _ {F : Type 0} (did : Did F) (writable : ℕ → Bool) (bytes bytes' : By
   pub data TellsNamed (beside path flags a : ℕ) (old new : Files F) (answer : ℕ)
       (accesses : List Access) : Type 0 where
     IsOfDescriptor : (e : ℕ) (first later : List Access)
-        → TakesPath bytes old.descriptors.are_open beside path (Err e) first
+        → TakesPath bytes old.descriptors beside path (Err e) first
         → is_of_descriptor e flags ≡ true
         → TellsFile beside a old new answer later → accesses ≡ first ++ later
         → TellsNamed beside path flags a old new answer accesses
     IsForbiddenPath :
-        TakesPath bytes old.descriptors.are_open beside path (Err answer) accesses
+        TakesPath bytes old.descriptors beside path (Err answer) accesses
         → is_of_descriptor answer flags ≡ false
         → new ≡ old → bytes' ≡ bytes → TellsNamed beside path flags a old new answer accesses
     HasNoStatus : (text : List ℕ) (named : Named) (folder : F)
-        → TakesPath bytes old.descriptors.are_open beside path (Ok text) accesses
+        → TakesPath bytes old.descriptors beside path (Ok text) accesses
         → Walks did text old.folder folder named → naming named flags ≡ Err answer
         → new ≡ record old { folder = folder } → bytes' ≡ bytes
         → TellsNamed beside path flags a old new answer accesses
     IsToldByName : (text : List ℕ) (named : Named) (folder : F) (status : Status)
         (first later : List Access)
-        → TakesPath bytes old.descriptors.are_open beside path (Ok text) first
+        → TakesPath bytes old.descriptors beside path (Ok text) first
         → Walks did text old.folder folder named → naming named flags ≡ Ok status
         → new ≡ record old { folder = folder }
         → PutsBytes writable bytes bytes' a (status_bytes status) later answer
@@ -286,6 +285,12 @@ module _ {F : Type 0} (did : Did F) (writable : ℕ → Bool) (bytes bytes' : By
       ByPath (λ text. Opens did text flags mode) beside path old new answer accesses
   DoesFile (FileRequest.Close descriptor) old new answer accesses =
       Closes did descriptor old new answer × (bytes' ≡ bytes) × (accesses ≡ [])
+  DoesFile (FileRequest.CloseStream stream) old new answer accesses =
+      ClosesStream did stream old new answer × (bytes' ≡ bytes) × (accesses ≡ [])
+  DoesFile (FileRequest.Copy descriptor) old new answer accesses =
+      Copies did descriptor old new answer × (bytes' ≡ bytes) × (accesses ≡ [])
+  DoesFile (FileRequest.CopyTo descriptor to flags) old new answer accesses =
+      CopiesTo did descriptor to flags old new answer × (bytes' ≡ bytes) × (accesses ≡ [])
   DoesFile (FileRequest.Seek descriptor offset from a) old new answer accesses =
       SeeksFile descriptor offset from a old new answer accesses
   DoesFile (FileRequest.Read descriptor a count) old new answer accesses =
@@ -320,8 +325,18 @@ module _ {F : Type 0} (did : Did F) (writable : ℕ → Bool) (bytes bytes' : By
   DoesFile (FileRequest.Refused said) old new answer accesses =
       (new ≡ old) × (bytes' ≡ bytes) × (accesses ≡ []) × (answer ≡ said)
 
+-- read, write, writev, fstat64, _llseek and ioctl
+abbrev pub is_of_stream : ℕ → Bool
+is_of_stream call =
+    (call == 63) || (call == 64) || (call == 66) || (call == 80) || (call == 62) || (call == 29)
+
+-- such a call on a standard stream that the program closed
+abbrev pub asks_closed : State → List Bool → Bool
+asks_closed s are_closed = is_closed_stream are_closed (reg s 10) && is_of_stream (reg s 17)
+
 -- What a call does: it is one for the files, which the machine goes on after, with the answer in
--- a0; or it is for the other environment, and the files stay.
+-- a0; or it is one on a stream that the program closed; or it is for the other environment, and the
+-- files stay.
 pub data ServesFiles {P F : Type 0} (serves : Relation P) (did : Did F) (old : WithFiles P F)
     (s : State) (new : WithFiles P F) (t : State) (accesses : List Access) (end : Option ℕ)
     : Type 0 where
@@ -331,7 +346,13 @@ pub data ServesFiles {P F : Type 0} (serves : Relation P) (did : Did F) (old : W
       → t ≡ answered (record s { bytes = bytes }) answer → end ≡ None
       → new.process.now ≡ old.process.now
       → ServesFiles serves did old s new t accesses end
+  -- EBADF is 9
+  IsOfClosed :
+      AsksFile s None → asks_closed s old.files.descriptors.are_closed ≡ true
+      → t ≡ answered s (error 9) → accesses ≡ [] → end ≡ None
+      → new.process.now ≡ old.process.now → new.files ≡ old.files
+      → ServesFiles serves did old s new t accesses end
   IsOther :
-      AsksFile s None
+      AsksFile s None → asks_closed s old.files.descriptors.are_closed ≡ false
       → serves old.process.now s new.process.now t accesses end → new.files ≡ old.files
       → ServesFiles serves did old s new t accesses end

@@ -1,15 +1,16 @@
 -- The paths of a program (path_resolution(7)): the bytes of its memory up to a 0, names between
 -- slashes. The folder is the program's root and its working directory. A path may not have the name
 -- "..", and none of its parts may be a link.
-use Rattle.std.specs.Prelude.{◌≡◌, ◌≢◌, ◌⊎◌, ℕ, ◌+◌, ◌-◌, ◌^◌, ◌<◌, ◌≤◌, ◌==◌, bit_and, if◌then◌else◌, Bool, List, [], length, take, slice_index, Option, Some, None, Result, Ok, Err}
+use Rattle.std.specs.Prelude.{◌≡◌, ◌≢◌, ◌⊎◌, ℕ, ◌+◌, ◌-◌, ◌^◌, ◌<◌, ◌≤◌, ◌==◌, bit_and, if◌then◌else◌, true, false, List, [], length, take, slice_index, Option, Some, None, Result, Ok, Err}
 use Rattle.rrs_lib.specs.Bytes.{ByteMap}
 use Rattle.rrs_lib.specs.AccessLists.{Access}
 use Rattle.rrs_linux.specs.Requests.{error}
 use Rattle.rrs_linux.specs.Transfers.{Stands, byte_reads}
+use Rattle.rrs_files.specs.declared.descriptors.Descriptors.{Descriptors}
 use Rattle.rrs_files.specs.declared.folder.Status.{Status}
 use Rattle.rrs_files.specs.declared.paths.Named.{Named}
 use Rattle.rrs_files.specs.declared.paths.Named.TheVariants.{There, Missing, Stopped}
-use Rattle.rrs_files.specs.Descriptors.{IsOpen, IsClosed}
+use Rattle.rrs_files.specs.Descriptors.{IsOpen, IsClosed, is_closed_stream}
 use Rattle.rrs_files.specs.Events.{Did, Looked}
 
 -- ---- the text
@@ -65,18 +66,24 @@ pub record IsAllowed (path : List ℕ) (beside : ℕ) : Type 0 where
   pub stays : Climbs path → ⊥
 
 -- why a path is not allowed
-pub data IsForbidden (path : List ℕ) (beside : ℕ) (are_open : List Bool) (answer : ℕ) : Type 0 where
+pub data IsForbidden (path : List ℕ) (beside : ℕ) (descriptors : Descriptors) (answer : ℕ)
+    : Type 0 where
   -- ENOENT is 2
-  IsEmpty : path ≡ [] → answer ≡ error 2 → IsForbidden path beside are_open answer
-  -- it is beside a descriptor, which is no directory, or not open (ENOTDIR is 20, and EBADF 9)
+  IsEmpty : path ≡ [] → answer ≡ error 2 → IsForbidden path beside descriptors answer
+  -- it is beside a descriptor, which is answered as where that is no directory, or not open
+  -- (ENOTDIR is 20, and EBADF 9)
   IsBeside :
-      (BeginsHere path beside → ⊥) → (beside ≤ 2) ⊎ ((place : ℕ) × IsOpen are_open beside place)
-      → answer ≡ error 20 → IsForbidden path beside are_open answer
+      (BeginsHere path beside → ⊥)
+      → ((beside ≤ 2) × (is_closed_stream descriptors.are_closed beside ≡ false))
+      ⊎ ((place : ℕ) × IsOpen descriptors.files beside place)
+      → answer ≡ error 20 → IsForbidden path beside descriptors answer
   IsNowhere :
-      (BeginsHere path beside → ⊥) → 2 < beside → IsClosed are_open beside
-      → answer ≡ error 9 → IsForbidden path beside are_open answer
+      (BeginsHere path beside → ⊥)
+      → (is_closed_stream descriptors.are_closed beside ≡ true)
+      ⊎ ((2 < beside) × IsClosed descriptors.files beside)
+      → answer ≡ error 9 → IsForbidden path beside descriptors answer
   -- EACCES is 13
-  IsUp : Climbs path → answer ≡ error 13 → IsForbidden path beside are_open answer
+  IsUp : Climbs path → answer ≡ error 13 → IsForbidden path beside descriptors answer
 
 -- ---- what a path names
 

@@ -91,6 +91,13 @@ pub data AsksFileBy (call a0 a1 a2 a3 a4 : ℕ) (request : Option FileRequest) :
   -- fstatat64 (fstatat(2)): the status is put at a2, and the flags are a3
   ToGetNamed :
       call ≡ 79 → 2 < a0 → request ≡ Some (NamedStatus a0 a1 a3 a2)
+  -- dup(2), and dup3, both of whose descriptors are of files
+  ToCopy : call ≡ 23 → 2 < a0 → request ≡ Some (Copy a0) → AsksFileBy call a0 a1 a2 a3 a4 request
+  ToCopyTo :
+      call ≡ 24 → 2 < a0 → 2 < a1 → request ≡ Some (CopyTo a0 a1 a2)
+      → AsksFileBy call a0 a1 a2 a3 a4 request
+  ToCloseStream :
+      call ≡ 57 → a0 ≤ 2 → request ≡ Some (CloseStream a0)
       → AsksFileBy call a0 a1 a2 a3 a4 request
   ToClose : call ≡ 57 → 2 < a0 → request ≡ Some (Close a0) → AsksFileBy call a0 a1 a2 a3 a4 request
   ToRead : call ≡ 63 → 2 < a0 → request ≡ Some (Read a0 a1 a2) → AsksFileBy call a0 a1 a2 a3 a4 request
@@ -112,7 +119,8 @@ pub data AsksFileBy (call a0 a1 a2 a3 a4 : ℕ) (request : Option FileRequest) :
       call ≡ 291 → 2 < a0 → request ≡ Some (Refused (error 38))
       → AsksFileBy call a0 a1 a2 a3 a4 request
   OfOther :
-      (IsOfFiles call → ⊥) → (TakesDescriptor call → a0 ≤ 2) → request ≡ None
+      (IsOfFiles call → ⊥) → (TakesDescriptor call → a0 ≤ 2)
+      → (call ≡ 24 → (a0 ≤ 2) ⊎ (a1 ≤ 2)) → request ≡ None
       → AsksFileBy call a0 a1 a2 a3 a4 request
 
 -- what the call of a machine at an ecall asks for

@@ -1,10 +1,10 @@
 //! The files of a program, and what the calls do to them whose path is read.
 
 ghost use Rattle.std.specs.Prelude.{◌≡◌, ◌&&◌};
-ghost use Rattle.rrs_files.specs.Acts.{Changes, ChangesName, Closes, Controls, Opens, Owns, Renames, Tests, control_answer, denying, keeping, keeps, moving, needs_right, opening, owning, replacing, stream_flags, timing};
+ghost use Rattle.rrs_files.specs.Acts.{Changes, ChangesName, Closes, ClosesStream, Controls, ControlsDevice, Copies, CopiesTo, Opens, Owns, Renames, Tests, control_answer, denying, keeping, keeps, moving, needs_right, opening, owning, replacing, stream_flags, timing};
 ghost use Rattle.rrs_files.specs.Requests.{changes, not_served};
 
-use crate::descriptors::{Descriptors, descriptor_at};
+use crate::descriptors::{Descriptors, END, FIRST, descriptor_at};
 use crate::errors::{
     A_DIRECTORY, ACCESS_DENIED, BAD_ARGUMENT, BAD_DESCRIPTOR, IS_LINK, IS_THERE, MANY_OPEN,
     NO_DIRECTORY, NO_FILE, NOT_PERMITTED, READ_ONLY,
@@ -15,6 +15,9 @@ use crate::requests::how_of;
 
 /// The flags of `openat` that are not served: `O_DIRECTORY` and `O_PATH`, and so `O_TMPFILE`.
 const NOT_SERVED: u32 = 0x21_0000;
+
+/// The flag of `dup3`, which changes nothing here: `O_CLOEXEC`.
+const CLOSES_ON_EXEC: u32 = 0x8_0000;
 
 /// The commands of `fcntl` for the flags of a descriptor: `F_GETFD`, `F_SETFD`.
 const GET_FLAGS: u32 = 1;
@@ -63,36 +66,92 @@ impl<F: Folder> Files<F> {
             Some(place) => place,
             None => return MANY_OPEN,
         };
+        let at = match self.descriptors.free_file() {
+            Some(at) => at,
+            None => return MANY_OPEN,
+        };
         match opening(walk(&mut self.folder, path), how) {
             Some(refused) => return refused,
             None => {}
         }
-        match self.folder.open(place, path, how) {
+        match self.folder.open(at, path, how) {
             Some(failed) => failed,
             None => {
-                self.descriptors.take(place, flags);
+                self.descriptors.take(place, at, flags);
                 descriptor_at(place)
             }
         }
     }
 
-    /// Closes a descriptor, and gives the answer of the call.
+    /// Closes a descriptor, and gives the answer of the call. Its file stays open where another one
+    /// has it too.
     pub fn close(&mut self, descriptor: u32) -> u32
         ensures { Closes F.did descriptor self.old self.new result }
     {
-        let Some(place) = self.descriptors.place_of(descriptor) else {
+        let Some(at) = self.descriptors.file_of(descriptor) else {
             return BAD_DESCRIPTOR;
         };
-        self.folder.close(place);
-        self.descriptors.free(place);
+        self.descriptors.free(descriptor);
+        if self.descriptors.has(at) {
+            return 0;
+        }
+        self.folder.close(at);
         0
+    }
+
+    /// Closes a standard stream, and gives the answer of the call.
+    pub fn close_stream(&mut self, stream: u32) -> u32
+        ensures { ClosesStream F.did stream self.old self.new result }
+    {
+        if stream > 2 || self.descriptors.are_closed[stream as usize] {
+            return BAD_DESCRIPTOR;
+        }
+        self.descriptors.are_closed[stream as usize] = true;
+        0
+    }
+
+    /// Gives the file of a descriptor another one, the first that is free, and gives the answer of
+    /// the call.
+    pub fn copy(&mut self, descriptor: u32) -> u32
+        ensures { Copies F.did descriptor self.old self.new result }
+    {
+        let Some(at) = self.descriptors.file_of(descriptor) else {
+            return BAD_DESCRIPTOR;
+        };
+        let place = match self.descriptors.free_place() {
+            Some(place) => place,
+            None => return MANY_OPEN,
+        };
+        let kept = self.descriptors.flags_of(descriptor);
+        self.descriptors.take(place, at, kept);
+        descriptor_at(place)
+    }
+
+    /// Gives the file of a descriptor this other one, which is closed first, and gives the answer
+    /// of the call.
+    pub fn copy_to(&mut self, descriptor: u32, to: u32, flags: u32) -> u32
+        ensures { CopiesTo F.did descriptor to flags self.old self.new result }
+    {
+        if descriptor == to || flags & !CLOSES_ON_EXEC != 0 {
+            return BAD_ARGUMENT;
+        }
+        if to < FIRST || to >= END {
+            return BAD_DESCRIPTOR;
+        }
+        let Some(at) = self.descriptors.file_of(descriptor) else {
+            return BAD_DESCRIPTOR;
+        };
+        let kept = self.descriptors.flags_of(descriptor);
+        self.close(to);
+        self.descriptors.take((to - FIRST) as usize, at, kept);
+        to
     }
 
     /// Changes the file of a descriptor, and gives the answer of the call.
     pub fn change(&mut self, descriptor: u32, change: Change) -> u32
         ensures { Changes F.did descriptor change self.old self.new result }
     {
-        let Some(place) = self.descriptors.place_of(descriptor) else {
+        let Some(place) = self.descriptors.file_of(descriptor) else {
             return BAD_DESCRIPTOR;
         };
         if is_kept(self.is_read_only, change) {
@@ -106,7 +165,7 @@ impl<F: Folder> Files<F> {
     pub fn own(&mut self, descriptor: u32, owner: u32, group: u32) -> u32
         ensures { Owns F.did descriptor owner group self.old self.new result }
     {
-        let Some(place) = self.descriptors.place_of(descriptor) else {
+        let Some(place) = self.descriptors.file_of(descriptor) else {
             return BAD_DESCRIPTOR;
         };
         match self.folder.status(place) {
@@ -159,11 +218,14 @@ impl<F: Folder> Files<F> {
     pub fn control(&self, descriptor: u32, command: u32, argument: u32) -> u32
         ensures { Controls F.did descriptor command argument self.now self.now result }
     {
+        if self.descriptors.is_closed_stream(descriptor) {
+            return BAD_DESCRIPTOR;
+        }
         if descriptor <= 2 {
             return answer_to(flags_of_stream(descriptor), command, argument);
         }
-        match self.descriptors.place_of(descriptor) {
-            Some(place) => answer_to(self.descriptors.flags[place], command, argument),
+        match self.descriptors.file_of(descriptor) {
+            Some(_) => answer_to(self.descriptors.flags_of(descriptor), command, argument),
             None => BAD_DESCRIPTOR,
         }
     }

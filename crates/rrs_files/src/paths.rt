@@ -78,13 +78,17 @@ pub fn read_path<M: Memory>(
 /// descriptor, or it has a part `..`.
 pub fn refusal_of(path: &[u8], beside: u32, descriptors: &Descriptors) -> Option<u32>
     ensures { MatchOption result (IsAllowed path.now beside)
-        (IsForbidden path.now beside descriptors.now.are_open) }
+        (IsForbidden path.now beside descriptors.now) }
 {
     let Some(first) = path.first() else {
         return Some(NO_FILE);
     };
     if *first != SLASH && beside != WORKING_DIRECTORY {
-        let is_open = beside <= 2 || descriptors.place_of(beside).is_some();
+        let is_open = if beside <= 2 {
+            !descriptors.is_closed_stream(beside)
+        } else {
+            descriptors.file_of(beside).is_some()
+        };
         return Some(if is_open {
             NO_DIRECTORY
         } else {

@@ -10,8 +10,14 @@ use rrs_lib::HartState;
 
 /// `getcwd`.
 const GETCWD: u32 = 17;
+/// `dup`.
+const DUP: u32 = 23;
+/// `dup3`.
+const DUP3: u32 = 24;
 /// `fcntl64`.
 const FCNTL64: u32 = 25;
+/// `ioctl`.
+pub const IOCTL: u32 = 29;
 /// `mkdirat`.
 const MKDIRAT: u32 = 34;
 /// `unlinkat`.
@@ -29,11 +35,13 @@ const OPENAT: u32 = 56;
 /// `close`.
 const CLOSE: u32 = 57;
 /// `_llseek`.
-const LLSEEK: u32 = 62;
+pub const LLSEEK: u32 = 62;
 /// `read`.
-const READ: u32 = 63;
+pub const READ: u32 = 63;
 /// `write`.
-const WRITE: u32 = 64;
+pub const WRITE: u32 = 64;
+/// `writev`.
+pub const WRITEV: u32 = 66;
 /// `pread64`.
 const PREAD64: u32 = 67;
 /// `pwrite64`.
@@ -41,7 +49,7 @@ const PWRITE64: u32 = 68;
 /// `fstatat64`.
 const FSTATAT64: u32 = 79;
 /// `fstat64`.
-const FSTAT64: u32 = 80;
+pub const FSTAT64: u32 = 80;
 /// `fsync`.
 const FSYNC: u32 = 82;
 /// `fdatasync`.
@@ -63,6 +71,12 @@ pub enum FileRequest {
     Open(u32, u32, u32, u32),
     /// To close a descriptor.
     Close(u32),
+    /// To close a standard stream.
+    CloseStream(u32),
+    /// To give the file of a descriptor another one.
+    Copy(u32),
+    /// To give the file of a descriptor this other one, with flags.
+    CopyTo(u32, u32, u32),
     /// To move the position of a descriptor, by an offset of 64 bits, from a place, and to put it
     /// at an address: descriptor, offset, place, address.
     Seek(u32, u64, u32, u32),
@@ -150,6 +164,8 @@ fn request_by(
         UTIMENSAT if third != 0 && fourth == 0 => Some(FileRequest::SetTimes(first, second, third)),
         UTIMENSAT => Some(FileRequest::Refused(BAD_ARGUMENT)),
         FCNTL64 => Some(FileRequest::Control(first, second, third)),
+        CLOSE if first > 2 => Some(FileRequest::Close(first)),
+        CLOSE => Some(FileRequest::CloseStream(first)),
         _ if first > 2 => request_on(call, first, second, third, fourth, fifth),
         _ => None,
     }
@@ -170,8 +186,8 @@ fn request_on(
     ensures { AsksFileBy call first second third fourth fifth result }
 {
     match call {
-        FSTATAT64 => Some(FileRequest::NamedStatus(first, second, fourth, third)),
-        CLOSE => Some(FileRequest::Close(first)),
+        DUP => Some(FileRequest::Copy(first)),
+        DUP3 if second > 2 => Some(FileRequest::CopyTo(first, second, third)),
         READ => Some(FileRequest::Read(first, second, third)),
         WRITE => Some(FileRequest::Write(first, second, third)),
         PREAD64 => {

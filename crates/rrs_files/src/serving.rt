@@ -9,6 +9,7 @@ ghost use Rattle.rrs_fast.specs.Serving.{MakesSome};
 ghost use Rattle.rrs_files.specs.Acts.{ChangesName, Opens, Renames, Tests};
 ghost use Rattle.rrs_files.specs.Calls.{ByPath, ByPaths, DoesFile, IsMoment, ReadsFile, SeeksFile, ServesFiles, SetsTimes, TakesPath, TakesTimes, TellsFile, TellsFolder, TellsNamed, WritesFile, folder_answer, is_of_descriptor, naming, times_of};
 
+use crate::descriptors::Descriptors;
 use crate::errors::{BAD_ADDRESS, BAD_ARGUMENT, BAD_DESCRIPTOR, IS_LINK, NO_FILE, NO_ROOM};
 use crate::files::Files;
 use crate::folder::{Folder, Moment, NameChange, Status};
@@ -50,6 +51,9 @@ impl<F: Folder> Files<F> {
                 self.open_at(memory, beside, path, flags, mode)
             }
             FileRequest::Close(descriptor) => self.close(descriptor),
+            FileRequest::CloseStream(stream) => self.close_stream(stream),
+            FileRequest::Copy(descriptor) => self.copy(descriptor),
+            FileRequest::CopyTo(descriptor, to, flags) => self.copy_to(descriptor, to, flags),
             FileRequest::Seek(descriptor, offset, from, address) => {
                 self.seek_to(memory, descriptor, offset, from, address)
             }
@@ -100,11 +104,11 @@ impl<F: Folder> Files<F> {
         text: &mut [u8; PATH_BYTES],
     ) -> Result<usize, u32>
         ensures taken { IfOk result (λ size. MakesSome M.reads M.writes
-            (TakesPath (M.bytes memory.old) self.now.descriptors.are_open beside address
+            (TakesPath (M.bytes memory.old) self.now.descriptors beside address
             (Ok (take size text.new))) memory.old memory.new) }
         ensures within { IfOk result (λ size. size < 4096) }
         ensures refused { IfErr result (λ error. MakesSome M.reads M.writes
-            (TakesPath (M.bytes memory.old) self.now.descriptors.are_open beside address
+            (TakesPath (M.bytes memory.old) self.now.descriptors beside address
             (Err error)) memory.old memory.new) }
         ensures bytes_kept { M.bytes memory.new ≡ M.bytes memory.old }
         ensures writable_kept { M.writable memory.new ≡ M.writable memory.old }
@@ -242,7 +246,7 @@ impl<F: Folder> Files<F> {
         ensures writable_kept { M.writable memory.new ≡ M.writable memory.old }
         ensures layout_kept { M.layout memory.new ≡ M.layout memory.old }
     {
-        let Some(place) = self.descriptors.place_of(descriptor) else {
+        let Some(place) = self.descriptors.file_of(descriptor) else {
             return BAD_DESCRIPTOR;
         };
         let Some(most) = most_of(address, count) else {
@@ -306,7 +310,7 @@ impl<F: Folder> Files<F> {
         ensures writable_kept { M.writable memory.new ≡ M.writable memory.old }
         ensures layout_kept { M.layout memory.new ≡ M.layout memory.old }
     {
-        let Some(place) = self.descriptors.place_of(descriptor) else {
+        let Some(place) = self.descriptors.file_of(descriptor) else {
             return BAD_DESCRIPTOR;
         };
         if from > 2 {
@@ -327,7 +331,7 @@ impl<F: Folder> Files<F> {
         ensures writable_kept { M.writable memory.new ≡ M.writable memory.old }
         ensures layout_kept { M.layout memory.new ≡ M.layout memory.old }
     {
-        let Some(place) = self.descriptors.place_of(descriptor) else {
+        let Some(place) = self.descriptors.file_of(descriptor) else {
             return BAD_DESCRIPTOR;
         };
         match self.folder.status(place) {
@@ -492,13 +496,42 @@ impl<'a, P: Environment, F: Folder> Environment for WithFiles<'a, P, F> {
 
     fn serve<M: Memory>(&mut self, executor: &mut InstructionExecutor<M>) -> Option<u32> {
         match file_request_of(executor.hart_state) {
-            None => self.process.serve(executor),
+            None => {
+                if asks_closed(executor.hart_state, &self.files.descriptors) {
+                    return go_on(executor.hart_state, BAD_DESCRIPTOR);
+                }
+                self.process.serve(executor)
+            }
             Some(request) => {
                 let answer = self.files.perform(executor.mem, request);
                 go_on(executor.hart_state, answer)
             }
         }
     }
+}
+
+/// Whether the call of a hart at an `ecall` is one on a standard stream that the program closed.
+fn asks_closed(hart: &HartState, descriptors: &Descriptors) -> bool
+    ensures { (bytes : ℕ → Option ℕ) (writable : ℕ → Bool)
+        → result ≡ asks_closed (state_of hart.now bytes writable) descriptors.now.are_closed }
+{
+    let call = hart.read_register(17);
+    let first = hart.read_register(10);
+    is_closed_by(call, first, descriptors)
+}
+
+/// Whether a call with this number and this first argument is one on a stream that was closed.
+fn is_closed_by(call: u32, first: u32, descriptors: &Descriptors) -> bool
+    ensures { result ≡ (is_closed_stream descriptors.now.are_closed first && is_of_stream call) }
+{
+    descriptors.is_closed_stream(first) && is_of_stream(call)
+}
+
+/// Whether a call on a standard stream is answered `EBADF` where that is closed.
+fn is_of_stream(call: u32) -> bool
+    ensures { result ≡ is_of_stream call }
+{
+    matches!(call, READ | WRITE | WRITEV | FSTAT64 | LLSEEK | IOCTL)
 }
 
 /// Puts the answer of a call into a0. The program goes on.

@@ -57,3 +57,16 @@ pub returns-in-Folder-clause-does : goal.returns-in-Folder-clause-does
 returns-in-Folder-clause-does g c =
     let put = c.put_folder.ensures.does in
     rw c.in-Folder.is (record { accesses = put.accesses; these = (put.these, refl); made = put.made })
+
+pub returns-in-Copy-clause-does : goal.returns-in-Copy-clause-does
+returns-in-Copy-clause-does g c =
+    rw c.in-Copy.is (record { accesses = []; these = (c.copy.ensures, refl, refl); made = refl })
+
+pub returns-in-CopyTo-clause-does : goal.returns-in-CopyTo-clause-does
+returns-in-CopyTo-clause-does g c =
+    rw c.in-ExtendedStatus.is c.put_named-in-ExtendedStatus.ensures.does
+
+pub returns-in-CloseStream-clause-does : goal.returns-in-CloseStream-clause-does
+returns-in-CloseStream-clause-does g c =
+    rw c.in-CloseStream.is
+    (record { accesses = []; these = (c.close_stream.ensures, refl, refl); made = refl })

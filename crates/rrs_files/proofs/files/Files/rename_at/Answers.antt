@@ -19,7 +19,7 @@ returns-in-Err-path_at-clause-does g c =
     let took = c.in-Ok.ensures.taken in
     let kept = c.path_at.ensures in
     later memory.reads memory.writes
-    (λ w b xs. TakesPath b c.args.self.now.descriptors.are_open c.args.new_beside c.args.new_path
+    (λ w b xs. TakesPath b c.args.self.now.descriptors c.args.new_beside c.args.new_path
     (Err c.in-Err-path_at.error) xs)
     (memory.writable c.args.memory.now) (memory.writable c.path_at.new.memory)
     (memory.bytes c.args.memory.now) (memory.bytes c.path_at.new.memory) took.accesses
@@ -34,7 +34,7 @@ returns-in-Ok-path_at-clause-does g c =
     let took = c.in-Ok.ensures.taken in
     let kept = c.path_at.ensures in
     later memory.reads memory.writes
-    (λ w b xs. TakesPath b c.args.self.now.descriptors.are_open c.args.new_beside c.args.new_path
+    (λ w b xs. TakesPath b c.args.self.now.descriptors c.args.new_beside c.args.new_path
     (Ok (take c.in-Ok-path_at.new_size c.path_at-2.new.text)) xs)
     (memory.writable c.args.memory.now) (memory.writable c.path_at.new.memory)
     (memory.bytes c.args.memory.now) (memory.bytes c.path_at.new.memory) took.accesses
