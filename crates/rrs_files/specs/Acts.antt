@@ -324,3 +324,12 @@ module _ {F : Type 0} (did : Did F) where
         → answer
         ≡ control_answer (slice_index_or old.descriptors.flags (descriptor - 3) 0) command argument
         → Controls descriptor command argument old new answer
+
+  -- ioctl on a file or a directory, which is no terminal (ENOTTY is 25)
+  pub data ControlsDevice (descriptor : ℕ) (old new : Files F) (answer : ℕ) : Type 0 where
+    NotOpenToControlDevice :
+        IsClosed old.descriptors.files descriptor → new ≡ old → answer ≡ error 9
+        → ControlsDevice descriptor old new answer
+    IsNoTerminal : (place : ℕ)
+        → IsOpen old.descriptors.files descriptor place → new ≡ old → answer ≡ error 25
+        → ControlsDevice descriptor old new answer

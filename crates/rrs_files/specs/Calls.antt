@@ -11,7 +11,9 @@ use Rattle.rrs_linux.specs.Giving.{GivesText}
 use Rattle.rrs_linux.specs.Requests.{error}
 use Rattle.rrs_linux.specs.Statuses.{PutsBytes}
 use Rattle.rrs_linux.specs.SystemCalls.{answered}
-use Rattle.rrs_linux.specs.Transfers.{Stands, byte_reads}
+use Rattle.rrs_linux.specs.Transfers.{Takes, Stands, byte_reads}
+use Rattle.rrs_linux.specs.Vectors.{WritesVector}
+use Rattle.rrs_files.specs.declared.descriptors.Descriptors.{Descriptors}
 use Rattle.rrs_files.specs.declared.files.Files.{Files}
 use Rattle.rrs_files.specs.declared.folder.Moment.{Moment}
 use Rattle.rrs_files.specs.declared.folder.NameChange.{NameChange}
@@ -19,6 +21,7 @@ use Rattle.rrs_files.specs.declared.folder.NameChange.TheVariants.{SetTimes}
 use Rattle.rrs_files.specs.declared.folder.Status.{Status}
 use Rattle.rrs_files.specs.declared.paths.Named.{Named}
 use Rattle.rrs_files.specs.declared.paths.Named.TheVariants.{There, Missing, Stopped}
+use Rattle.rrs_files.specs.declared.pieces.OpenFile.{OpenFile}
 use Rattle.rrs_files.specs.declared.requests.FileRequest.{FileRequest}
 use Rattle.rrs_files.specs.declared.serving.WithFiles.{WithFiles}
 use Rattle.rrs_files.specs.Acts.{Opens, Closes, Changes, Owns, ChangesName, Renames, Tests, Controls}
@@ -117,6 +120,62 @@ pub data TakesTimes (bytes : ByteMap) (a : ℕ) (change : Result NameChange ℕ)
       2 ^ 32 < a + 32 → accesses ≡ [] → change ≡ Err (error 14)
       → TakesTimes bytes a change accesses
 
+-- By what a folder says of a call, and by the bytes of memory, which stay:
+module _ {F : Type 0} (did : Did F) (bytes : ByteMap) where
+  -- write and, from an offset, pwrite64: at once, so many bytes at most, from a on
+  pub data WritesFile (descriptor : ℕ) (from : Option ℕ) (a count : ℕ) (old new : Files F)
+      (answer : ℕ) (accesses : List Access) : Type 0 where
+    NotOpenToWrite :
+        IsClosed old.descriptors.files descriptor
+        → new ≡ old → accesses ≡ [] → answer ≡ error 9
+        → WritesFile descriptor from a count old new answer accesses
+    WritePassesEnd : (place : ℕ)
+        → IsOpen old.descriptors.files descriptor place → 2 ^ 32 < a + count
+        → new ≡ old → accesses ≡ [] → answer ≡ error 14
+        → WritesFile descriptor from a count old new answer accesses
+    -- the first byte is not mapped
+    IsUnmapped : (place : ℕ)
+        → IsOpen old.descriptors.files descriptor place → a + count ≤ 2 ^ 32
+        → 0 < count → bytes a ≡ None
+        → new ≡ old → accesses ≡ byte_reads bytes a 1 → answer ≡ error 14
+        → WritesFile descriptor from a count old new answer accesses
+    IsWritten : (place : ℕ) (folder : F) (text : List ℕ) (reads : ℕ) (taken : Result ℕ ℕ)
+        → IsOpen old.descriptors.files descriptor place → a + count ≤ 2 ^ 32
+        → Stands bytes a text → ReadsBuffer bytes a (min count most_of_file) text reads
+        → did old.folder (Took place from text taken) folder
+        → new ≡ record old { folder = folder } → accesses ≡ byte_reads bytes a reads
+        → answer ≡ taken_of taken
+        → WritesFile descriptor from a count old new answer accesses
+
+-- what a write does by a descriptor to the files, as to a stream
+abbrev pub takes_of_file : {F : Type 0} → Did F → (descriptor : ℕ) → Takes (Files F)
+takes_of_file did descriptor bytes a count old new answer accesses =
+    WritesFile did bytes descriptor None a count old new answer accesses
+
+-- what it does where the files are lent: they are the same ones still
+abbrev pub takes_lent : {F : Type 0} → Did F → Takes (OpenFile F)
+takes_lent did bytes a count old new answer accesses =
+    (new.descriptor ≡ old.descriptor) × (new.files.ghost_name ≡ old.files.ghost_name)
+    × takes_of_file did old.descriptor bytes a count old.files.now new.files.now answer accesses
+
+-- writev: each piece is written as write writes a buffer
+pub data WritesFilePieces {F : Type 0} (did : Did F) (bytes : ByteMap) (descriptor a count : ℕ)
+    (old new : Files F) (answer : ℕ) (accesses : List Access) : Type 0 where
+  NotOpenToWritePieces :
+      IsClosed old.descriptors.files descriptor → new ≡ old → accesses ≡ [] → answer ≡ error 9
+      → WritesFilePieces did bytes descriptor a count old new answer accesses
+  -- it is open to be read alone (O_RDONLY is 0): the vector is not looked at
+  IsOpenToRead : (place : ℕ)
+      → IsOpen old.descriptors.files descriptor place
+      → may_write old.descriptors.flags descriptor ≡ false
+      → new ≡ old → accesses ≡ [] → answer ≡ error 9
+      → WritesFilePieces did bytes descriptor a count old new answer accesses
+  ArePiecesWritten : (place : ℕ)
+      → IsOpen old.descriptors.files descriptor place
+      → may_write old.descriptors.flags descriptor ≡ true
+      → WritesVector (takes_of_file did descriptor) bytes a count old new answer accesses
+      → WritesFilePieces did bytes descriptor a count old new answer accesses
+
 -- By what a folder says of a call, by which addresses are writable, and by the bytes before and
 -- after:
 module _ {F : Type 0} (did : Did F) (writable : ℕ → Bool) (bytes bytes' : ByteMap) where
@@ -173,31 +232,6 @@ module _ {F : Type 0} (did : Did F) (writable : ℕ → Bool) (bytes bytes' : By
         → new ≡ record old { folder = folder }
         → GivesText writable bytes bytes' a (min count most_of_file) text left answer accesses
         → ReadsFile descriptor from a count old new answer accesses
-
-  -- write and, from an offset, pwrite64: at once, so many bytes at most, from a on
-  pub data WritesFile (descriptor : ℕ) (from : Option ℕ) (a count : ℕ) (old new : Files F) (answer : ℕ)
-      (accesses : List Access) : Type 0 where
-    NotOpenToWrite :
-        IsClosed old.descriptors.are_open descriptor
-        → new ≡ old → bytes' ≡ bytes → accesses ≡ [] → answer ≡ error 9
-        → WritesFile descriptor from a count old new answer accesses
-    WritePassesEnd : (place : ℕ)
-        → IsOpen old.descriptors.are_open descriptor place → 2 ^ 32 < a + count
-        → new ≡ old → bytes' ≡ bytes → accesses ≡ [] → answer ≡ error 14
-        → WritesFile descriptor from a count old new answer accesses
-    -- the first byte is not mapped
-    IsUnmapped : (place : ℕ)
-        → IsOpen old.descriptors.are_open descriptor place → a + count ≤ 2 ^ 32
-        → 0 < count → bytes a ≡ None
-        → new ≡ old → bytes' ≡ bytes → accesses ≡ byte_reads bytes a 1 → answer ≡ error 14
-        → WritesFile descriptor from a count old new answer accesses
-    IsWritten : (place : ℕ) (folder : F) (text : List ℕ) (reads : ℕ) (taken : Result ℕ ℕ)
-        → IsOpen old.descriptors.are_open descriptor place → a + count ≤ 2 ^ 32
-        → Stands bytes a text → ReadsBuffer bytes a (min count most_of_file) text reads
-        → did old.folder (Took place from text taken) folder
-        → new ≡ record old { folder = folder } → bytes' ≡ bytes
-        → accesses ≡ byte_reads bytes a reads → answer ≡ taken_of taken
-        → WritesFile descriptor from a count old new answer accesses
 
   -- _llseek: the position is put at a, in 8 bytes
   pub data SeeksFile (descriptor offset from a : ℕ) (old new : Files F) (answer : ℕ)
@@ -298,9 +332,12 @@ module _ {F : Type 0} (did : Did F) (writable : ℕ → Bool) (bytes bytes' : By
   DoesFile (FileRequest.ReadAt descriptor offset a count) old new answer accesses =
       ReadsFile descriptor (Some offset) a count old new answer accesses
   DoesFile (FileRequest.Write descriptor a count) old new answer accesses =
-      WritesFile descriptor None a count old new answer accesses
+      WritesFile did bytes descriptor None a count old new answer accesses × (bytes' ≡ bytes)
   DoesFile (FileRequest.WriteAt descriptor offset a count) old new answer accesses =
-      WritesFile descriptor (Some offset) a count old new answer accesses
+      WritesFile did bytes descriptor (Some offset) a count old new answer accesses
+      × (bytes' ≡ bytes)
+  DoesFile (FileRequest.WritePieces descriptor a count) old new answer accesses =
+      WritesFilePieces did bytes descriptor a count old new answer accesses × (bytes' ≡ bytes)
   DoesFile (FileRequest.Status descriptor a) old new answer accesses =
       TellsFile descriptor a old new answer accesses
   DoesFile (FileRequest.NamedStatus beside path flags a) old new answer accesses =
@@ -318,6 +355,8 @@ module _ {F : Type 0} (did : Did F) (writable : ℕ → Bool) (bytes bytes' : By
   DoesFile (FileRequest.Control descriptor command argument) old new answer accesses =
       Controls did descriptor command argument old new answer × (bytes' ≡ bytes)
       × (accesses ≡ [])
+  DoesFile (FileRequest.ControlDevice descriptor) old new answer accesses =
+      ControlsDevice did descriptor old new answer × (bytes' ≡ bytes) × (accesses ≡ [])
   DoesFile (FileRequest.SetTimes beside path a) old new answer accesses =
       SetsTimes beside path a old new answer accesses
   DoesFile (FileRequest.Folder a size) old new answer accesses =

@@ -109,6 +109,14 @@ pub data AsksFileBy (call a0 a1 a2 a3 a4 : ℕ) (request : Option FileRequest) :
   ToWriteAt :
       call ≡ 68 → 2 < a0 → request ≡ Some (WriteAt a0 (a4 * 2 ^ 32 + a3) a1 a2)
       → AsksFileBy call a0 a1 a2 a3 a4 request
+  -- writev (readv(2)): where the vector is, and how many pieces it has
+  ToWritePieces :
+      call ≡ 66 → 2 < a0 → request ≡ Some (WritePieces a0 a1 a2)
+      → AsksFileBy call a0 a1 a2 a3 a4 request
+  -- ioctl(2)
+  ToControlDevice :
+      call ≡ 29 → 2 < a0 → request ≡ Some (ControlDevice a0)
+      → AsksFileBy call a0 a1 a2 a3 a4 request
   ToGetStatus : call ≡ 80 → 2 < a0 → request ≡ Some (Status a0 a1) → AsksFileBy call a0 a1 a2 a3 a4 request
   -- _llseek(2): the high and the low half of the offset, where the position is put, and from where
   ToSeek :

@@ -20,6 +20,8 @@ pub const A_DIRECTORY: u32 = 0xffff_ffeb;
 pub const BAD_ARGUMENT: u32 = 0xffff_ffea;
 /// Too many files are open, `EMFILE` (24).
 pub const MANY_OPEN: u32 = 0xffff_ffe8;
+/// It is no terminal, `ENOTTY` (25).
+pub const NO_TERMINAL: u32 = 0xffff_ffe7;
 /// Files may only be read, `EROFS` (30).
 pub const READ_ONLY: u32 = 0xffff_ffe2;
 /// There is no room for the answer, `ERANGE` (34).

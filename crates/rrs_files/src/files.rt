@@ -7,7 +7,7 @@ ghost use Rattle.rrs_files.specs.Requests.{changes, not_served};
 use crate::descriptors::{Descriptors, END, FIRST, descriptor_at};
 use crate::errors::{
     A_DIRECTORY, ACCESS_DENIED, BAD_ARGUMENT, BAD_DESCRIPTOR, IS_LINK, IS_THERE, MANY_OPEN,
-    NO_DIRECTORY, NO_FILE, NOT_PERMITTED, READ_ONLY,
+    NO_DIRECTORY, NO_FILE, NO_TERMINAL, NOT_PERMITTED, READ_ONLY,
 };
 use crate::folder::{Change, Folder, How, NameChange, Status};
 use crate::paths::{IS_DIRECTORY, IS_FILE, IS_SYMBOLIC, Named, kind_of, walk};
@@ -226,6 +226,16 @@ impl<F: Folder> Files<F> {
         }
         match self.descriptors.file_of(descriptor) {
             Some(_) => answer_to(self.descriptors.flags_of(descriptor), command, argument),
+            None => BAD_DESCRIPTOR,
+        }
+    }
+
+    /// The answer of `ioctl` on a descriptor: what is open is no terminal.
+    pub fn control_device(&self, descriptor: u32) -> u32
+        ensures { ControlsDevice F.did descriptor self.now self.now result }
+    {
+        match self.descriptors.file_of(descriptor) {
+            Some(_) => NO_TERMINAL,
             None => BAD_DESCRIPTOR,
         }
     }

@@ -12,6 +12,7 @@ mod files;
 mod folder;
 mod host_folder;
 mod paths;
+mod pieces;
 mod requests;
 mod running;
 mod serving;

@@ -88,6 +88,8 @@ pub enum FileRequest {
     Write(u32, u32, u32),
     /// To write to a descriptor, from an offset on, from an address, so many bytes at most.
     WriteAt(u32, u64, u32, u32),
+    /// To write to a descriptor, from the pieces of a vector at an address, so many pieces.
+    WritePieces(u32, u32, u32),
     /// To put the status of a descriptor at an address.
     Status(u32, u32),
     /// To put the status of a file at an address: beside a descriptor, by the path at an address,
@@ -108,6 +110,8 @@ pub enum FileRequest {
     Test(u32, u32, u32),
     /// To do a command of `fcntl` on a descriptor, with an argument.
     Control(u32, u32, u32),
+    /// To do what only a device does, `ioctl`, on a descriptor.
+    ControlDevice(u32),
     /// To set the times of a file: beside a descriptor, by the path at an address, and the times at
     /// an address.
     SetTimes(u32, u32, u32),
@@ -198,6 +202,8 @@ fn request_on(
             let offset = u64::from(fifth) << 32 | u64::from(fourth);
             Some(FileRequest::WriteAt(first, offset, second, third))
         }
+        WRITEV => Some(FileRequest::WritePieces(first, second, third)),
+        IOCTL => Some(FileRequest::ControlDevice(first)),
         FSTAT64 => Some(FileRequest::Status(first, second)),
         LLSEEK => {
             let offset = u64::from(second) << 32 | u64::from(third);

@@ -22,7 +22,7 @@ use rrs_lib::{HartState, Memory};
 use rrs_linux::{copy_chunk, give_bytes, most_of, put_bytes};
 
 /// The most bytes that one call reads or writes of a file.
-const CHUNK: usize = 65_536;
+pub const CHUNK: usize = 65_536;
 
 /// How many bytes two times have.
 const TIMES: u32 = 32;
@@ -69,6 +69,9 @@ impl<F: Folder> Files<F> {
             FileRequest::WriteAt(descriptor, offset, address, count) => {
                 self.write_from(memory, descriptor, Some(offset), address, count)
             }
+            FileRequest::WritePieces(descriptor, address, count) => {
+                self.write_pieces_from(memory, descriptor, address, count)
+            }
             FileRequest::Status(descriptor, address) => {
                 self.put_status(memory, descriptor, address)
             }
@@ -87,6 +90,7 @@ impl<F: Folder> Files<F> {
             FileRequest::Control(descriptor, command, argument) => {
                 self.control(descriptor, command, argument)
             }
+            FileRequest::ControlDevice(descriptor) => self.control_device(descriptor),
             FileRequest::SetTimes(beside, path, times) => {
                 self.set_times(memory, beside, path, times)
             }

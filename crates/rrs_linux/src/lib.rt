@@ -31,7 +31,6 @@ ghost use Rattle.rrs_linux.specs.SystemCalls.{ServesBy, AreAlike, moved, answere
 
 use crate::clocks::put_time;
 use crate::host::NOBODY_READS;
-use crate::pieces::write_pieces;
 use crate::names::put_names;
 use crate::random::give_random;
 use crate::requests::{NO_SUCH_CALL, system_call_of};
@@ -43,6 +42,7 @@ pub use clocks::{Clocks, LinuxClocks, StoppedClocks, TimeForm};
 pub use host_side::HostSide;
 pub use host_writer::HostWriter;
 pub use input_buffer::InputBuffer;
+pub use pieces::write_pieces;
 pub use recorder::{Known, OutputRecorder, records_determined};
 pub use requests::{BRK, Request};
 use rrs_fast::Environment;

@@ -1,4 +1,4 @@
-use Rattle.std.proofs.Common.{◌≡◌, [], refl}
+use Rattle.std.proofs.Common.{[], refl}
 use Rattle.rrs_files.proofs.files.Files.perform.Goals as goal
 
 pub returns-in-Close-clause-does : goal.returns-in-Close-clause-does
@@ -15,13 +15,39 @@ pub returns-in-Read-clause-does : goal.returns-in-Read-clause-does
 returns-in-Read-clause-does g c = rw c.in-Read.is c.read_to.ensures.does
 
 pub returns-in-Write-clause-does : goal.returns-in-Write-clause-does
-returns-in-Write-clause-does g c = rw c.in-Write.is c.write_from.ensures.does
+returns-in-Write-clause-does g c =
+    let wrote = c.write_from.ensures in
+    rw c.in-Write.is (record {
+      accesses = wrote.does.accesses;
+      these = (wrote.does.these, wrote.bytes_kept);
+      made = wrote.does.made;
+    })
 
 pub returns-in-ReadAt-clause-does : goal.returns-in-ReadAt-clause-does
 returns-in-ReadAt-clause-does g c = rw c.in-ReadAt.is c.read_to-in-ReadAt.ensures.does
 
 pub returns-in-WriteAt-clause-does : goal.returns-in-WriteAt-clause-does
-returns-in-WriteAt-clause-does g c = rw c.in-WriteAt.is c.write_from-in-WriteAt.ensures.does
+returns-in-WriteAt-clause-does g c =
+    let wrote = c.write_from-in-WriteAt.ensures in
+    rw c.in-WriteAt.is (record {
+      accesses = wrote.does.accesses;
+      these = (wrote.does.these, wrote.bytes_kept);
+      made = wrote.does.made;
+    })
+
+pub returns-in-WritePieces-clause-does : goal.returns-in-WritePieces-clause-does
+returns-in-WritePieces-clause-does g c =
+    let wrote = c.write_pieces_from.ensures in
+    rw c.in-WritePieces.is (record {
+      accesses = wrote.does.accesses;
+      these = (wrote.does.these, wrote.bytes_kept);
+      made = wrote.does.made;
+    })
+
+pub returns-in-ControlDevice-clause-does : goal.returns-in-ControlDevice-clause-does
+returns-in-ControlDevice-clause-does g c =
+    rw c.in-ControlDevice.is
+    (record { accesses = []; these = (c.control_device.ensures, refl, refl); made = refl })
 
 pub returns-in-Status-clause-does : goal.returns-in-Status-clause-does
 returns-in-Status-clause-does g c = rw c.in-Status.is c.put_status.ensures.does
