@@ -368,13 +368,14 @@ def preludes_are_imported(code):
     """Rattle's prelude has names that Rust's without `std` has not: a source that uses one imports
     them. `write!` to a `String` is by `WriteText`, which returns an error where memory ran out; where
     `Write` of `io` is there, it writes to a file. `cast_signed` is Rust's from 1.87 on, and before it
-    by a trait."""
+    by a trait. An `ArrayVec` has `try_extend_from_slice` itself."""
     texts = code.texts()
+    added = ADDED - {"try_extend_from_slice"} if "ArrayVec" in texts else ADDED
     wants = "format" in texts and bool(code.places("format", "!"))
     for i, text in enumerate(texts):
         before = texts[i - 1] if i else ""
         wants |= text in PRELUDE and before != "::"
-        wants |= text in ADDED and before == "."
+        wants |= text in added and before == "."
         wants |= text in MAKERS.values() and before == "::"
         wants |= text == "alloc" and before == "." and texts[i + 1 : i + 3] == ["(", ")"]
     wanted = ["use std::prelude::*;"] if wants else []

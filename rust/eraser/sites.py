@@ -24,6 +24,12 @@ SITES = (
         "The crates are for Rust 1.85, in which `str` itself has no such function.",
     ),
     (
+        "rrs_files/src/host_directory.rt",
+        "str::from_utf8(&name)",
+        "core::str::from_utf8(&name)",
+        "The same.",
+    ),
+    (
         "tests_assembler/src/expansions.rt",
         "Result<Program, SourceFault>",
         "Result<Program<'_>, SourceFault>",

@@ -1,3 +1,4 @@
 pub mod Buffers
 pub mod Lent
+pub mod Listing
 pub mod ReadPaths

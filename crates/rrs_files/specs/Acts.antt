@@ -22,11 +22,14 @@ opening Missing how = if how.creates then None else Some (error 2)
 opening (There status) how =
     -- EEXIST is 17
     if how.creates && how.is_new then Some (error 17)
-    else (if kind status == 0x8000 then None
     -- a link: ELOOP is 40
     else (if kind status == 0xa000 then Some (error 40)
-    -- a directory: EISDIR is 21; a device, a pipe, a socket: EACCES is 13
-    else (if kind status == 0x4000 then Some (error 21) else Some (error 13))))
+    -- a directory, which is opened to be read alone: EISDIR is 21
+    else (if kind status == 0x4000 then (if changes how then Some (error 21) else None)
+    -- no directory, where one is wanted: ENOTDIR is 20
+    else (if how.is_directory then Some (error 20)
+    -- a file; or a device, a pipe, a socket: EACCES is 13
+    else (if kind status == 0x8000 then None else Some (error 13)))))
 
 -- why the times of what has this status aren't set, if they aren't: it is neither a file nor a
 -- directory, but a link (ELOOP is 40), or another (EACCES is 13)

@@ -60,6 +60,11 @@ naming (There status) flags =
 abbrev pub is_of_descriptor : (e flags : ℕ) → Bool
 is_of_descriptor e flags = (e == error 2) && not (bit_and flags 0x1000 == 0)
 
+-- how many bytes of entries are put, where the position is moved after them, or the error
+abbrev pub listed_of : (moved : Result ℕ ℕ) → (size : ℕ) → ℕ
+listed_of (Ok position) size = size
+listed_of (Err e) size = e
+
 -- how many bytes were written, or the error
 abbrev pub taken_of : Result ℕ ℕ → ℕ
 taken_of (Ok n) = n
@@ -257,6 +262,40 @@ module _ {F : Type 0} (did : Did F) (writable : ℕ → Bool) (bytes bytes' : By
         → PutsBytes writable bytes bytes' a (to_le_bytes w64 position) accesses answer
         → SeeksFile descriptor offset from a old new answer accesses
 
+  -- getdents64: the next entries, all that have room, are put at a, and then the position is moved
+  -- after them
+  pub data ListsFile (descriptor a count : ℕ) (old new : Files F) (answer : ℕ)
+      (accesses : List Access) : Type 0 where
+    NotOpenToList :
+        IsClosed old.descriptors.files descriptor
+        → new ≡ old → bytes' ≡ bytes → accesses ≡ [] → answer ≡ error 9
+        → ListsFile descriptor a count old new answer accesses
+    IsNotListed : (place : ℕ) (folder : F) (text : List ℕ)
+        → IsOpen old.descriptors.files descriptor place
+        → ReadsDirectory did place count old.folder folder text (Err answer)
+        → new ≡ record old { folder = folder } → bytes' ≡ bytes → accesses ≡ []
+        → ListsFile descriptor a count old new answer accesses
+    -- there are no more
+    IsAtEnd : (place next : ℕ) (folder : F)
+        → IsOpen old.descriptors.files descriptor place
+        → ReadsDirectory did place count old.folder folder [] (Ok next)
+        → new ≡ record old { folder = folder } → bytes' ≡ bytes → accesses ≡ [] → answer ≡ 0
+        → ListsFile descriptor a count old new answer accesses
+    -- the next call gives them once more
+    IsNotPut : (place next : ℕ) (folder : F) (text : List ℕ)
+        → IsOpen old.descriptors.files descriptor place
+        → ReadsDirectory did place count old.folder folder text (Ok next)
+        → new ≡ record old { folder = folder }
+        → PutsBytes writable bytes bytes' a text accesses answer → answer ≢ 0
+        → ListsFile descriptor a count old new answer accesses
+    IsListed : (place next : ℕ) (mid folder : F) (text : List ℕ) (moved : Result ℕ ℕ)
+        → IsOpen old.descriptors.files descriptor place
+        → ReadsDirectory did place count old.folder mid text (Ok next) → 0 < length text
+        → PutsBytes writable bytes bytes' a text accesses 0
+        → did mid (Sought place 0 next moved) folder
+        → new ≡ record old { folder = folder } → answer ≡ listed_of moved (length text)
+        → ListsFile descriptor a count old new answer accesses
+
   -- fstat64
   pub data TellsFile (descriptor a : ℕ) (old new : Files F) (answer : ℕ) (accesses : List Access)
       : Type 0 where
@@ -327,6 +366,8 @@ module _ {F : Type 0} (did : Did F) (writable : ℕ → Bool) (bytes bytes' : By
       CopiesTo did descriptor to flags old new answer × (bytes' ≡ bytes) × (accesses ≡ [])
   DoesFile (FileRequest.Seek descriptor offset from a) old new answer accesses =
       SeeksFile descriptor offset from a old new answer accesses
+  DoesFile (FileRequest.List descriptor a count) old new answer accesses =
+      ListsFile descriptor a count old new answer accesses
   DoesFile (FileRequest.Read descriptor a count) old new answer accesses =
       ReadsFile descriptor None a count old new answer accesses
   DoesFile (FileRequest.ReadAt descriptor offset a count) old new answer accesses =

@@ -3,6 +3,7 @@
 use Rattle.std.specs.Prelude.{ℕ, List, Option, Result}
 use Rattle.rrs_files.specs.declared.folder.Status.{Status}
 use Rattle.rrs_files.specs.declared.folder.Change.{Change}
+use Rattle.rrs_files.specs.declared.folder.Entry.{Entry}
 use Rattle.rrs_files.specs.declared.folder.How.{How}
 use Rattle.rrs_files.specs.declared.folder.NameChange.{NameChange}
 
@@ -17,6 +18,10 @@ pub data Event : Type 0 where
   Took : (at : ℕ) → (from : Option ℕ) → List ℕ → Result ℕ ℕ → Event
   -- lseek(2): from the beginning (0), the position (1) or the end (2), and to which position
   Sought : (at from offset : ℕ) → Result ℕ ℕ → Event
+  -- readdir(3) of a directory: the entry at a position and its name, or none, the positions from 0
+  -- on. At 0 the directory is read anew. The names "." and ".." come first, and the others in their
+  -- order; one that is not UTF-8 is left out
+  Listed : (at position : ℕ) → (name : List ℕ) → Result (Option Entry) ℕ → Event
   -- fstat(2)
   Told : (at : ℕ) → Result Status ℕ → Event
   -- ftruncate(2), fsync(2), fdatasync(2), fchmod(2)

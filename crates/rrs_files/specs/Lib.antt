@@ -7,6 +7,7 @@ pub mod Descriptors
 pub mod Paths
 pub mod Statuses
 pub mod Requests
+pub mod Entries
 pub mod Acts
 pub mod Calls
 pub mod Runs

@@ -100,6 +100,8 @@ pub data AsksFileBy (call a0 a1 a2 a3 a4 : ℕ) (request : Option FileRequest) :
       call ≡ 57 → a0 ≤ 2 → request ≡ Some (CloseStream a0)
       → AsksFileBy call a0 a1 a2 a3 a4 request
   ToClose : call ≡ 57 → 2 < a0 → request ≡ Some (Close a0) → AsksFileBy call a0 a1 a2 a3 a4 request
+  -- getdents64 (getdents(2))
+  ToList : call ≡ 61 → 2 < a0 → request ≡ Some (List a0 a1 a2) → AsksFileBy call a0 a1 a2 a3 a4 request
   ToRead : call ≡ 63 → 2 < a0 → request ≡ Some (Read a0 a1 a2) → AsksFileBy call a0 a1 a2 a3 a4 request
   ToWrite : call ≡ 64 → 2 < a0 → request ≡ Some (Write a0 a1 a2) → AsksFileBy call a0 a1 a2 a3 a4 request
   -- pread(2) and pwrite(2): the low and the high half of the offset
@@ -139,7 +141,7 @@ AsksFile s request =
 -- ---- the flags of openat
 
 -- How a file is opened by flags and a mode (fcntl.h): O_WRONLY is 1, O_RDWR 2, O_CREAT 0x40, O_EXCL
--- 0x80, O_TRUNC 0x200 and O_APPEND 0x400. The other flags change nothing here.
+-- 0x80, O_TRUNC 0x200, O_APPEND 0x400 and O_DIRECTORY 0x10000. The other flags change nothing here.
 abbrev pub how_of : (flags mode : ℕ) → How
 how_of flags mode = record {
   reads = bit_and flags 1 == 0;
@@ -148,12 +150,16 @@ how_of flags mode = record {
   creates = not (bit_and flags 0x40 == 0);
   is_new = not (bit_and flags 0x80 == 0);
   truncates = not (bit_and flags 0x200 == 0);
+  is_directory = not (bit_and flags 0x10000 == 0);
   mode = bit_and mode 0o777;
 }
 
--- flags that are not served: both O_WRONLY and O_RDWR, O_DIRECTORY (0x10000), O_PATH (0x200000)
+-- flags that are not served: both O_WRONLY and O_RDWR, O_PATH (0x200000), O_TMPFILE (which has
+-- 0x400000), and both O_CREAT and O_DIRECTORY
 abbrev pub not_served : ℕ → Bool
-not_served flags = (bit_and flags 3 == 3) || not (bit_and flags 0x210000 == 0)
+not_served flags =
+    (bit_and flags 3 == 3) || not (bit_and flags 0x600000 == 0)
+    || (bit_and flags 0x10040 == 0x10040)
 
 -- what changes files
 abbrev pub changes : How → Bool

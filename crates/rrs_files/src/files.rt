@@ -13,8 +13,11 @@ use crate::folder::{Change, Folder, How, NameChange, Status};
 use crate::paths::{IS_DIRECTORY, IS_FILE, IS_SYMBOLIC, Named, kind_of, walk};
 use crate::requests::how_of;
 
-/// The flags of `openat` that are not served: `O_DIRECTORY` and `O_PATH`, and so `O_TMPFILE`.
-const NOT_SERVED: u32 = 0x21_0000;
+/// The flags of `openat` that are not served: `O_PATH`, and of `O_TMPFILE` what no other flag has.
+const NOT_SERVED: u32 = 0x60_0000;
+
+/// Those that are not served together: `O_CREAT` and `O_DIRECTORY`.
+const NOT_TOGETHER: u32 = 0x1_0040;
 
 /// The flag of `dup3`, which changes nothing here: `O_CLOEXEC`.
 const CLOSES_ON_EXEC: u32 = 0x8_0000;
@@ -245,14 +248,21 @@ impl<F: Folder> Files<F> {
 fn not_served(flags: u32) -> bool
     ensures { result ≡ not_served flags }
 {
-    flags & 3 == 3 || flags & NOT_SERVED != 0
+    flags & 3 == 3 || flags & NOT_SERVED != 0 || flags & NOT_TOGETHER == NOT_TOGETHER
 }
 
 /// Whether files may only be read, and are opened otherwise.
 fn is_kept_out(is_read_only: bool, how: How) -> bool
     ensures { result ≡ (is_read_only && changes how) }
 {
-    is_read_only && (how.writes || how.creates || how.truncates)
+    is_read_only && changes(how)
+}
+
+/// Whether what is opened so may be changed.
+fn changes(how: How) -> bool
+    ensures { result ≡ changes how }
+{
+    how.writes || how.creates || how.truncates
 }
 
 /// Why what a path names isn't opened, if it isn't.
@@ -268,9 +278,14 @@ fn opening(named: Named, how: How) -> Option<u32>
         return Some(IS_THERE);
     }
     match kind_of(&status) {
-        IS_FILE => None,
         IS_SYMBOLIC => Some(IS_LINK),
-        IS_DIRECTORY => Some(A_DIRECTORY),
+        IS_DIRECTORY => if changes(how) {
+            Some(A_DIRECTORY)
+        } else {
+            None
+        },
+        _ if how.is_directory => Some(NO_DIRECTORY),
+        IS_FILE => None,
         _ => Some(ACCESS_DENIED),
     }
 }

@@ -1,7 +1,7 @@
 //! A folder of the host.
 
-ghost use Rattle.std.specs.Prelude.{◌≡◌, ◌≤◌, IfOk, IfErr, Ok, Err, length, take};
-ghost use Rattle.rrs_files.specs.Events.{Did, Changed, Closed, Gave, Looked, NameChanged, Opened, Renamed, Sought, Told, Took};
+ghost use Rattle.std.specs.Prelude.{◌≡◌, ◌<◌, ◌≤◌, [], IfOk, IfErr, IfSome, Ok, Err, Some, None, length, take};
+ghost use Rattle.rrs_files.specs.Events.{Did, Changed, Closed, Gave, LinkTold, Listed, Looked, NameChanged, Opened, Renamed, Sought, Told, Took};
 
 /// What is told of a file: its status.
 #[derive(Clone, Copy, Debug, PartialEq)]
@@ -56,8 +56,24 @@ pub struct How {
     pub is_new: bool,
     /// What it has is gone.
     pub truncates: bool,
+    /// It must be a directory.
+    pub is_directory: bool,
     /// Who may do what with it, if it is made.
     pub mode: u32,
+}
+
+/// The most bytes of a name: `NAME_MAX`.
+pub const NAME_BYTES: usize = 255;
+
+/// An entry of a directory, but for the bytes of its name.
+#[derive(Clone, Copy, Debug, PartialEq)]
+pub struct Entry {
+    /// The number of what it names, on the device that the directory lies on.
+    pub number: u64,
+    /// The kind of what it names: `d_type`.
+    pub kind: u8,
+    /// How many bytes its name has.
+    pub size: usize,
 }
 
 /// What is done to a file that is open.
@@ -87,6 +103,7 @@ pub enum NameChange {
 }
 
 /// The files below a folder of the host, of which up to 64 are open, each at a number from 0 to 63.
+/// A directory that is open to be read is one of them: its position is the number of an entry.
 ///
 /// A path is relative to the folder, and is nowhere absolute: `a/b` is `FOLDER/a/b`, and so is
 /// `/a/b`. Where a call fails, it gives the word that answers the error, -n for the error n.
@@ -144,6 +161,24 @@ pub trait Folder {
     fn status(&mut self, at: usize) -> Result<Status, u32>
         requires { at ≤ 63 }
         ensures { did self.old (Told at result) self.new };
+
+    /// The entry at a position of the directory at a number, if there are so many, whose name is
+    /// put at the beginning of this room: `.` and `..` first, and the others by their names.
+    fn entry(
+        &mut self,
+        at: usize,
+        position: u64,
+        room: &mut [u8; NAME_BYTES],
+    ) -> Result<Option<Entry>, u32>
+        requires { at ≤ 63 }
+        ensures within { IfOk result (λ told. IfSome told (λ entry. entry.size ≤ 255)) }
+        ensures told { IfOk result (λ told. IfSome told (λ entry.
+            did self.old (Listed at position (take entry.size room.new) (Ok (Some entry)))
+            self.new)) }
+        ensures ended { result ≡ Ok None
+            → did self.old (Listed at position [] (Ok None)) self.new }
+        ensures failed { IfErr result (λ error.
+            did self.old (Listed at position [] (Err error)) self.new) };
 
     /// Changes the file at a number. Gives the error, if there is one.
     fn change(&mut self, at: usize, change: Change) -> Option<u32>

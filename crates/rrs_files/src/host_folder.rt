@@ -4,7 +4,10 @@
 //! believed: that each function makes the call of the host that it names, with the path below the
 //! folder, and no other.
 
-use crate::folder::{Change, Folder, How, Moment, NameChange, Status};
+use crate::folder::{
+    Change, Entry, Folder, How, LINK_BYTES, Moment, NAME_BYTES, NameChange, Status,
+};
+use crate::host_directory::{BAD_ARGUMENT, HostDirectory};
 use std::alloc::Global;
 use std::fs::{DirBuilder, FileTimes, Metadata, OpenFile, OpenOptions, Permissions};
 use std::io::{self, ErrorKind, Read, Seek, SeekFrom, Write};
@@ -16,7 +19,7 @@ use std::time::{Duration, SystemTime};
 const MOST_OPEN: usize = 64;
 
 /// The errors that the host gives without a number, or that come before it is called: `EIO` (5),
-/// `ENOENT` (2), `ENOMEM` (12), `EBADF` (9) and `EINVAL` (22).
+/// `ENOENT` (2), `ENOMEM` (12), `EBADF` (9), `ENOTDIR` (20) and `EISDIR` (21).
 const HOST_FAILED: u32 = 0xffff_fffb;
 
 const NO_FILE: u32 = 0xffff_fffe;
@@ -25,7 +28,9 @@ const NO_MEMORY: u32 = 0xffff_fff4;
 
 const BAD_DESCRIPTOR: u32 = 0xffff_fff7;
 
-const BAD_ARGUMENT: u32 = 0xffff_ffea;
+const NO_DIRECTORY: u32 = 0xffff_ffec;
+
+const A_DIRECTORY: u32 = 0xffff_ffeb;
 
 /// A folder of the host, and the files below it that are open.
 #[derive(Drop)]
@@ -34,6 +39,8 @@ pub struct HostFolder<'h, 'p, H: Files> {
     alloc: Global,
     path: &'p str,
     files: Vec<Option<H::File>>,
+    /// Of these, the entries of those that are directories.
+    directories: Vec<Option<HostDirectory>>,
 }
 
 impl<'h, 'p, H: Files + AllocGlobal> HostFolder<'h, 'p, H> {
@@ -48,15 +55,23 @@ impl<'h, 'p, H: Files + AllocGlobal> HostFolder<'h, 'p, H> {
         }
         let alloc = host.alloc();
         let mut files = Vec::with_capacity(alloc, MOST_OPEN)?;
+        let mut directories = Vec::with_capacity(alloc, MOST_OPEN)?;
         for _ in 0..MOST_OPEN {
             files.push(None)?;
+            directories.push(None)?;
         }
         Ok(HostFolder {
             host,
             alloc,
             path,
             files,
+            directories,
         })
+    }
+
+    /// Whether what is open at a number is a directory.
+    fn is_directory(&self, at: usize) -> bool {
+        matches!(self.directories.get(at), Some(Some(_)))
     }
 
     /// The path of the host of a path below the folder. By the part `.` the host does not take a
@@ -185,19 +200,28 @@ impl<'h, 'p, H: Files + AllocGlobal> Folder for HostFolder<'h, 'p, H> {
             .create_new(how.creates && how.is_new)
             .truncate(how.truncates)
             .mode(how.mode);
-        match options.open(self.host, &path) {
-            Ok(file) => {
-                if let Some(place) = self.files.get_mut(at) {
-                    *place = Some(file);
-                }
-                None
-            }
-            Err(error) => Some(error_of(&error)),
+        let file = match options.open(self.host, &path) {
+            Ok(file) => file,
+            Err(error) => return Some(error_of(&error)),
+        };
+        let directory = match file.metadata() {
+            Ok(told) => HostDirectory::of(self.alloc, path, &told),
+            Err(error) => return Some(error_of(&error)),
+        };
+        if let Some(place) = self.files.get_mut(at) {
+            *place = Some(file);
         }
+        if let Some(place) = self.directories.get_mut(at) {
+            *place = directory;
+        }
+        None
     }
 
     fn close(&mut self, at: usize) {
         if let Some(place) = self.files.get_mut(at) {
+            *place = None;
+        }
+        if let Some(place) = self.directories.get_mut(at) {
             *place = None;
         }
     }
@@ -209,6 +233,9 @@ impl<'h, 'p, H: Files + AllocGlobal> Folder for HostFolder<'h, 'p, H> {
         most: usize,
         room: &mut [u8],
     ) -> Result<usize, u32> {
+        if self.is_directory(at) {
+            return Err(A_DIRECTORY);
+        }
         let Some(Some(file)) = self.files.get_mut(at) else {
             return Err(BAD_DESCRIPTOR);
         };
@@ -222,6 +249,9 @@ impl<'h, 'p, H: Files + AllocGlobal> Folder for HostFolder<'h, 'p, H> {
     }
 
     fn write(&mut self, at: usize, from: Option<u64>, bytes: &[u8]) -> Result<usize, u32> {
+        if self.is_directory(at) {
+            return Err(BAD_DESCRIPTOR);
+        }
         let Some(Some(file)) = self.files.get_mut(at) else {
             return Err(BAD_DESCRIPTOR);
         };
@@ -235,6 +265,9 @@ impl<'h, 'p, H: Files + AllocGlobal> Folder for HostFolder<'h, 'p, H> {
     }
 
     fn seek(&mut self, at: usize, from: u32, offset: u64) -> Result<u64, u32> {
+        if let Some(Some(directory)) = self.directories.get_mut(at) {
+            return directory.move_to(from, offset);
+        }
         let Some(Some(file)) = self.files.get_mut(at) else {
             return Err(BAD_DESCRIPTOR);
         };
@@ -247,6 +280,23 @@ impl<'h, 'p, H: Files + AllocGlobal> Folder for HostFolder<'h, 'p, H> {
             Ok(position) => Ok(position),
             Err(error) => Err(error_of(&error)),
         }
+    }
+
+    fn entry(
+        &mut self,
+        at: usize,
+        position: u64,
+        room: &mut [u8; NAME_BYTES],
+    ) -> Result<Option<Entry>, u32> {
+        let Some(Some(directory)) = self.directories.get_mut(at) else {
+            return Err(NO_DIRECTORY);
+        };
+        if position == 0 || directory.is_unread() {
+            if let Err(error) = directory.read_anew(self.host, self.alloc, self.path) {
+                return Err(error_of(&error));
+            }
+        }
+        Ok(directory.entry(position, room))
     }
 
     fn status(&mut self, at: usize) -> Result<Status, u32> {

@@ -7,9 +7,11 @@
 #![tactic(auto)]
 
 mod descriptors;
+mod entries;
 mod errors;
 mod files;
 mod folder;
+mod host_directory;
 mod host_folder;
 mod paths;
 mod pieces;
@@ -20,7 +22,7 @@ mod statuses;
 
 pub use descriptors::{Descriptors, MOST_OPEN};
 pub use files::Files;
-pub use folder::{Change, Folder, How, Moment, NameChange, Status};
+pub use folder::{Change, Entry, Folder, How, LINK_BYTES, Moment, NAME_BYTES, NameChange, Status};
 pub use host_folder::HostFolder;
 pub use requests::FileRequest;
 pub use running::{execute_below, execute_with_files};

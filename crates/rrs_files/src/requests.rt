@@ -34,6 +34,8 @@ const FCHOWN: u32 = 55;
 const OPENAT: u32 = 56;
 /// `close`.
 const CLOSE: u32 = 57;
+/// `getdents64`.
+const GETDENTS64: u32 = 61;
 /// `_llseek`.
 pub const LLSEEK: u32 = 62;
 /// `read`.
@@ -90,6 +92,9 @@ pub enum FileRequest {
     WriteAt(u32, u64, u32, u32),
     /// To write to a descriptor, from the pieces of a vector at an address, so many pieces.
     WritePieces(u32, u32, u32),
+    /// To put the next entries of the directory of a descriptor at an address, where there is room
+    /// for so many bytes.
+    List(u32, u32, u32),
     /// To put the status of a descriptor at an address.
     Status(u32, u32),
     /// To put the status of a file at an address: beside a descriptor, by the path at an address,
@@ -192,6 +197,7 @@ fn request_on(
     match call {
         DUP => Some(FileRequest::Copy(first)),
         DUP3 if second > 2 => Some(FileRequest::CopyTo(first, second, third)),
+        GETDENTS64 => Some(FileRequest::List(first, second, third)),
         READ => Some(FileRequest::Read(first, second, third)),
         WRITE => Some(FileRequest::Write(first, second, third)),
         PREAD64 => {
@@ -233,6 +239,7 @@ pub fn how_of(flags: u32, mode: u32) -> How
         creates: flags & 0x40 != 0,
         is_new: flags & 0x80 != 0,
         truncates: flags & 0x200 != 0,
+        is_directory: flags & 0x1_0000 != 0,
         mode: mode & 0o777,
     }
 }

@@ -10,6 +10,7 @@ ghost use Rattle.rrs_files.specs.Acts.{ChangesName, Opens, Renames, Tests};
 ghost use Rattle.rrs_files.specs.Calls.{ByPath, ByPaths, DoesFile, IsMoment, ReadsFile, SeeksFile, ServesFiles, SetsTimes, TakesPath, TakesTimes, TellsFile, TellsFolder, TellsNamed, WritesFile, folder_answer, is_of_descriptor, naming, times_of};
 
 use crate::descriptors::Descriptors;
+use crate::entries::read_directory;
 use crate::errors::{BAD_ADDRESS, BAD_ARGUMENT, BAD_DESCRIPTOR, IS_LINK, NO_FILE, NO_ROOM};
 use crate::files::Files;
 use crate::folder::{Folder, Moment, NameChange, Status};
@@ -56,6 +57,9 @@ impl<F: Folder> Files<F> {
             FileRequest::CopyTo(descriptor, to, flags) => self.copy_to(descriptor, to, flags),
             FileRequest::Seek(descriptor, offset, from, address) => {
                 self.seek_to(memory, descriptor, offset, from, address)
+            }
+            FileRequest::List(descriptor, address, count) => {
+                self.list_to(memory, descriptor, address, count)
             }
             FileRequest::Read(descriptor, address, count) => {
                 self.read_to(memory, descriptor, None, address, count)
@@ -264,38 +268,39 @@ impl<F: Folder> Files<F> {
         }
     }
 
-    /// Writes to a descriptor from memory, and gives the answer of the call.
-    fn write_from<M: Memory>(
+    /// Puts the next entries of the directory of a descriptor into memory, and gives the answer of
+    /// the call.
+    fn list_to<M: Memory>(
         &mut self,
         memory: &mut M,
         descriptor: u32,
-        from: Option<u64>,
         address: u32,
         count: u32,
     ) -> u32
         ensures does { MakesSome M.reads M.writes
-            (WritesFile F.did (M.writable memory.old) (M.bytes memory.old) (M.bytes memory.new)
-            descriptor from address count self.old self.new result)
+            (ListsFile F.did (M.writable memory.old) (M.bytes memory.old) (M.bytes memory.new)
+            descriptor address count self.old self.new result)
             memory.old memory.new }
         ensures writable_kept { M.writable memory.new ≡ M.writable memory.old }
         ensures layout_kept { M.layout memory.new ≡ M.layout memory.old }
     {
-        let Some(place) = self.descriptors.place_of(descriptor) else {
+        let Some(place) = self.descriptors.file_of(descriptor) else {
             return BAD_DESCRIPTOR;
         };
-        let Some(most) = most_of(address, count) else {
-            return BAD_ADDRESS;
+        let mut text = ArrayVec::new();
+        let next = match read_directory(&mut self.folder, place, count, &mut text) {
+            Err(error) => return error,
+            Ok(next) => next,
         };
-        let most = most.min(CHUNK as u32);
-        let mut chunk = [0; CHUNK];
-        let size = copy_chunk(memory, address, most, &mut chunk);
-        if is_unmapped(size, most) {
-            return BAD_ADDRESS;
+        let entries = text.as_slice();
+        if entries.is_empty() {
+            return 0;
         }
-        match self.folder.write(place, from, &chunk[..size as usize]) {
-            Err(error) => error,
-            Ok(written) => written as u32,
+        let put = put_bytes(entries, memory, address);
+        if put != 0 {
+            return put;
         }
+        listed_of(self.folder.seek(place, 0, next), entries.len() as u32)
     }
 
     /// Moves the position of a descriptor, puts it into memory, and gives the answer of the call.
@@ -454,12 +459,14 @@ fn folder_answer(put: u32) -> u32
     if put == 0 { 2 } else { put }
 }
 
-/// Whether a buffer of which bytes are wanted has none, where so many were copied.
-fn is_unmapped(copied: u32, wanted: u32) -> bool
-    ensures yes { result ≡ true → (copied ≡ 0) × (0 < wanted) }
-    ensures no { result ≡ false → copied ≡ 0 → wanted ≡ 0 }
+/// How many bytes of entries were put, where the position was moved after them, or the error.
+fn listed_of(moved: Result<u64, u32>, size: u32) -> u32
+    ensures { result ≡ listed_of moved size }
 {
-    copied == 0 && wanted != 0
+    match moved {
+        Ok(_) => size,
+        Err(error) => error,
+    }
 }
 
 /// Whether a status is that of a descriptor, where the path has this error.

@@ -138,6 +138,37 @@ impl host::os::unix::fs::DirBuilderExt for DirBuilder {
     }
 }
 
+/// The names in a directory, each ended by a 0. It has them when it is opened.
+#[derive(Debug)]
+pub struct Names(host::vec::IntoIter<host::ffi::OsString>, Option<host::ffi::OsString>);
+
+impl Names {
+    /// The names in the directory of a path.
+    pub(crate) fn of(path: &str) -> io::Result<Names> {
+        let entries = fs::read_dir(path)?.map(|entry| Ok(entry?.file_name()));
+        let names: io::Result<host::vec::Vec<_>> = entries.collect();
+        Ok(Names(names?.into_iter(), None))
+    }
+}
+
+impl io::Read for Names {
+    fn read(&mut self, room: &mut [u8]) -> io::Result<usize> {
+        let mut size = 0;
+        while let Some(name) = self.1.take().or_else(|| self.0.next()) {
+            let bytes = name.as_encoded_bytes();
+            let end = size + bytes.len();
+            if end >= room.len() {
+                self.1 = Some(name);
+                break;
+            }
+            room[size..end].copy_from_slice(bytes);
+            room[end] = 0;
+            size = end + 1;
+        }
+        Ok(size)
+    }
+}
+
 /// What is known of a file, or of a link.
 pub fn symlink_metadata<R: Files>(_: &R, path: &str) -> io::Result<Metadata> {
     fs::symlink_metadata(path)

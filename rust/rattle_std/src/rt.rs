@@ -15,11 +15,13 @@ pub trait AllocGlobal {
 #[cfg(feature = "std")]
 mod host_runtime {
     use super::AllocGlobal;
-    use crate::fs::OpenFile;
+    use crate::alloc::Global;
+    use crate::fs::{Names, OpenFile};
     use core::fmt::Display;
     use host::fs::File;
     use host::io::{self, BufRead, Read, Seek, Write};
     use host::os::fd::AsFd;
+    use host::path::PathBuf;
 
     /// The runtime of the host: its files, its standard streams, its clocks.
     #[derive(Clone, Copy, Debug, Default)]
@@ -90,8 +92,17 @@ mod host_runtime {
         /// A file that is open.
         type File: Read + Write + Seek + OpenFile;
 
+        /// A directory that is open. It is read as its names, each ended by a 0, and none in parts.
+        type Dir: Read;
+
         #[doc(hidden)]
         fn of(file: File) -> Self::File;
+
+        /// The text of a link.
+        fn read_link(&self, _: Global, path: &str) -> io::Result<PathBuf>;
+
+        /// Opens a directory.
+        fn open_dir(&self, path: &str) -> io::Result<Self::Dir>;
     }
 
     impl AllocGlobal for HostRuntime {}
@@ -103,8 +114,18 @@ mod host_runtime {
     impl Files for HostRuntime {
         type File = File;
 
+        type Dir = Names;
+
+        fn read_link(&self, _: Global, path: &str) -> io::Result<PathBuf> {
+            host::fs::read_link(path)
+        }
+
         fn of(file: File) -> File {
             file
+        }
+
+        fn open_dir(&self, path: &str) -> io::Result<Names> {
+            Names::of(path)
         }
     }
 }

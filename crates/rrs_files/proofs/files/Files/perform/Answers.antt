@@ -84,6 +84,9 @@ returns-in-Folder-clause-does g c =
     let put = c.put_folder.ensures.does in
     rw c.in-Folder.is (record { accesses = put.accesses; these = (put.these, refl); made = put.made })
 
+pub returns-in-List-clause-does : goal.returns-in-List-clause-does
+returns-in-List-clause-does g c = rw c.in-List.is c.list_to.ensures.does
+
 pub returns-in-Copy-clause-does : goal.returns-in-Copy-clause-does
 returns-in-Copy-clause-does g c =
     rw c.in-Copy.is (record { accesses = []; these = (c.copy.ensures, refl, refl); made = refl })
