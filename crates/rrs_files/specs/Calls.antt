@@ -1,7 +1,7 @@
 -- What the calls for files do to the files and to the machine: which bytes of memory are read and
 -- written, which calls of the host are made, and what is answered. A call that is refused makes no
 -- call of the host, but for the looks at its path.
-use Rattle.std.specs.Prelude.{◌≡◌, ◌⊎◌, ℕ, ◌+◌, ◌^◌, ◌<◌, ◌≤◌, ◌*◌, ◌==◌, ◌&&◌, ◌||◌, nat_le, min, not, bit_and, if◌then◌else◌, Bool, true, false, List, [], ◌∷◌, ◌++◌, length, Option, Some, None, Result, Ok, Err}
+use Rattle.std.specs.Prelude.{◌≡◌, ◌≢◌, ◌⊎◌, ℕ, ◌+◌, ◌-◌, ◌^◌, ◌<◌, ◌≤◌, ◌*◌, ◌==◌, ◌&&◌, ◌||◌, nat_le, min, not, bit_and, if◌then◌else◌, Bool, true, false, take, List, [], ◌∷◌, ◌++◌, length, Option, Some, None, Result, Ok, Err}
 use Rattle.std.specs.Int.{to_le_bytes, w64}
 use Rattle.rrs_lib.specs.Bytes.{ByteMap, little_endian}
 use Rattle.rrs_lib.specs.AccessLists.{Access}
@@ -24,12 +24,14 @@ use Rattle.rrs_files.specs.declared.paths.Named.TheVariants.{There, Missing, Sto
 use Rattle.rrs_files.specs.declared.pieces.OpenFile.{OpenFile}
 use Rattle.rrs_files.specs.declared.requests.FileRequest.{FileRequest}
 use Rattle.rrs_files.specs.declared.serving.WithFiles.{WithFiles}
-use Rattle.rrs_files.specs.Acts.{Opens, Closes, Changes, Owns, ChangesName, Renames, Tests, Controls}
-use Rattle.rrs_files.specs.Descriptors.{IsOpen, IsClosed}
-use Rattle.rrs_files.specs.Events.{Did, Gave, Took, Sought, Told}
+use Rattle.rrs_files.specs.declared.statuses.Form.{Form}
+use Rattle.rrs_files.specs.Acts.{Opens, Closes, ClosesStream, Copies, CopiesTo, Changes, Owns, ChangesName, Renames, Tests, Controls, ControlsDevice}
+use Rattle.rrs_files.specs.Descriptors.{IsOpen, IsClosed, is_closed_stream, may_write}
+use Rattle.rrs_files.specs.Entries.{ReadsDirectory}
+use Rattle.rrs_files.specs.Events.{Did, Gave, LinkTold, Looked, Took, Sought, Told}
 use Rattle.rrs_files.specs.Paths.{IsText, IsAllowed, IsForbidden, Walks, kind}
 use Rattle.rrs_files.specs.Requests.{AsksFile}
-use Rattle.rrs_files.specs.Statuses.{status_bytes}
+use Rattle.rrs_files.specs.Statuses.{stream_bytes, told_bytes}
 
 -- the most bytes of a file that one call reads or writes
 abbrev pub most_of_file : ℕ
@@ -56,7 +58,8 @@ naming Missing flags = Err (error 2)
 naming (There status) flags =
     if (kind status == 0xa000) && (bit_and flags 0x100 == 0) then Err (error 40) else Ok status
 
--- a status is that of a descriptor: the path is empty, and may be (AT_EMPTY_PATH is 0x1000)
+-- a status is that of what a path is beside: the path is empty, and may be (AT_EMPTY_PATH is
+-- 0x1000)
 abbrev pub is_of_descriptor : (e flags : ℕ) → Bool
 is_of_descriptor e flags = (e == error 2) && not (bit_and flags 0x1000 == 0)
 
@@ -64,6 +67,18 @@ is_of_descriptor e flags = (e == error 2) && not (bit_and flags 0x1000 == 0)
 abbrev pub listed_of : (moved : Result ℕ ℕ) → (size : ℕ) → ℕ
 listed_of (Ok position) size = size
 listed_of (Err e) size = e
+
+-- why what a path names has no text of a link, if it has none (ENOENT is 2): it is none (EINVAL is
+-- 22)
+abbrev pub linking : Named → Option ℕ
+linking (Stopped e) = Some e
+linking Missing = Some (error 2)
+linking (There status) = if kind status == 0xa000 then None else Some (error 22)
+
+-- the answer of readlinkat where this many bytes were put with this answer: how many they are, or
+-- the error
+abbrev pub link_answer : (put size : ℕ) → ℕ
+link_answer put size = if put == 0 then size else put
 
 -- how many bytes were written, or the error
 abbrev pub taken_of : Result ℕ ℕ → ℕ
@@ -124,6 +139,16 @@ pub data TakesTimes (bytes : ByteMap) (a : ℕ) (change : Result NameChange ℕ)
   PassEnd :
       2 ^ 32 < a + 32 → accesses ≡ [] → change ≡ Err (error 14)
       → TakesTimes bytes a change accesses
+
+-- The path of a link is walked, and then the link is read; or the error.
+pub data FindsLink {F : Type 0} (did : Did F) (path : List ℕ) (old new : F)
+    (target : Result (List ℕ) ℕ) : Type 0 where
+  HasNoLink : (named : Named) (e : ℕ)
+      → Walks did path old new named → linking named ≡ Some e → target ≡ Err e
+      → FindsLink did path old new target
+  HasLink : (named : Named) (mid : F)
+      → Walks did path old mid named → linking named ≡ None → did mid (LinkTold path target) new
+      → FindsLink did path old new target
 
 -- By what a folder says of a call, and by the bytes of memory, which stay:
 module _ {F : Type 0} (did : Did F) (bytes : ByteMap) where
@@ -296,50 +321,99 @@ module _ {F : Type 0} (did : Did F) (writable : ℕ → Bool) (bytes bytes' : By
         → new ≡ record old { folder = folder } → answer ≡ listed_of moved (length text)
         → ListsFile descriptor a count old new answer accesses
 
-  -- fstat64
-  pub data TellsFile (descriptor a : ℕ) (old new : Files F) (answer : ℕ) (accesses : List Access)
+  -- fstat64, in struct stat64, and statx of a descriptor
+  pub data TellsFile (descriptor a : ℕ) (form : Form) (old new : Files F) (answer : ℕ) (accesses : List Access)
       : Type 0 where
     NotOpenToTell :
         IsClosed old.descriptors.files descriptor
         → new ≡ old → bytes' ≡ bytes → accesses ≡ [] → answer ≡ error 9
-        → TellsFile descriptor a old new answer accesses
+        → TellsFile descriptor a form old new answer accesses
     TellFailed : (place : ℕ) (folder : F)
         → IsOpen old.descriptors.files descriptor place
         → did old.folder (Told place (Err answer)) folder
         → new ≡ record old { folder = folder } → bytes' ≡ bytes → accesses ≡ []
-        → TellsFile descriptor a old new answer accesses
+        → TellsFile descriptor a form old new answer accesses
     IsTold : (place : ℕ) (folder : F) (status : Status)
         → IsOpen old.descriptors.files descriptor place
         → did old.folder (Told place (Ok status)) folder
         → new ≡ record old { folder = folder }
-        → PutsBytes writable bytes bytes' a (status_bytes status) accesses answer
-        → TellsFile descriptor a old new answer accesses
+        → PutsBytes writable bytes bytes' a (told_bytes form status) accesses answer
+        → TellsFile descriptor a form old new answer accesses
 
-  -- fstatat64: of a path, or of a descriptor
-  pub data TellsNamed (beside path flags a : ℕ) (old new : Files F) (answer : ℕ)
+  -- fstatat64 and statx of an empty path, where it may be (AT_EMPTY_PATH): the status of what the
+  -- descriptor has, a file or a standard stream, or of the working directory (AT_FDCWD, -100),
+  -- which is the folder
+  pub data TellsBeside (beside a : ℕ) (form : Form) (old new : Files F) (answer : ℕ)
+      (accesses : List Access) : Type 0 where
+    IsOfFile :
+        2 < beside → beside ≢ error 100 → TellsFile beside a form old new answer accesses
+        → TellsBeside beside a form old new answer accesses
+    IsOfOpenStream :
+        beside ≤ 2 → is_closed_stream old.descriptors.are_closed beside ≡ false → new ≡ old
+        → PutsBytes writable bytes bytes' a (stream_bytes form) accesses answer
+        → TellsBeside beside a form old new answer accesses
+    IsOfNoStream :
+        is_closed_stream old.descriptors.are_closed beside ≡ true
+        → new ≡ old → bytes' ≡ bytes → accesses ≡ [] → answer ≡ error 9
+        → TellsBeside beside a form old new answer accesses
+    IsOfNoFolder : (folder : F)
+        → beside ≡ error 100 → did old.folder (Looked [] (Err answer)) folder
+        → new ≡ record old { folder = folder } → bytes' ≡ bytes → accesses ≡ []
+        → TellsBeside beside a form old new answer accesses
+    IsOfFolder : (folder : F) (status : Status)
+        → beside ≡ error 100 → did old.folder (Looked [] (Ok status)) folder
+        → new ≡ record old { folder = folder }
+        → PutsBytes writable bytes bytes' a (told_bytes form status) accesses answer
+        → TellsBeside beside a form old new answer accesses
+
+  -- fstatat64 and statx: of a path, or of what it is beside
+  pub data TellsNamed (beside path flags a : ℕ) (form : Form) (old new : Files F) (answer : ℕ)
       (accesses : List Access) : Type 0 where
     IsOfDescriptor : (e : ℕ) (first later : List Access)
         → TakesPath bytes old.descriptors beside path (Err e) first
         → is_of_descriptor e flags ≡ true
-        → TellsFile beside a old new answer later → accesses ≡ first ++ later
-        → TellsNamed beside path flags a old new answer accesses
+        → TellsBeside beside a form old new answer later → accesses ≡ first ++ later
+        → TellsNamed beside path flags a form old new answer accesses
     IsForbiddenPath :
         TakesPath bytes old.descriptors beside path (Err answer) accesses
         → is_of_descriptor answer flags ≡ false
-        → new ≡ old → bytes' ≡ bytes → TellsNamed beside path flags a old new answer accesses
+        → new ≡ old → bytes' ≡ bytes → TellsNamed beside path flags a form old new answer accesses
     HasNoStatus : (text : List ℕ) (named : Named) (folder : F)
         → TakesPath bytes old.descriptors beside path (Ok text) accesses
         → Walks did text old.folder folder named → naming named flags ≡ Err answer
         → new ≡ record old { folder = folder } → bytes' ≡ bytes
-        → TellsNamed beside path flags a old new answer accesses
+        → TellsNamed beside path flags a form old new answer accesses
     IsToldByName : (text : List ℕ) (named : Named) (folder : F) (status : Status)
         (first later : List Access)
         → TakesPath bytes old.descriptors beside path (Ok text) first
         → Walks did text old.folder folder named → naming named flags ≡ Ok status
         → new ≡ record old { folder = folder }
-        → PutsBytes writable bytes bytes' a (status_bytes status) later answer
+        → PutsBytes writable bytes bytes' a (told_bytes form status) later answer
         → accesses ≡ first ++ later
-        → TellsNamed beside path flags a old new answer accesses
+        → TellsNamed beside path flags a form old new answer accesses
+
+  -- readlinkat: the text of a link, which is the last part of the path, as many bytes as are wanted
+  pub data ReadsLink (beside path a size : ℕ) (old new : Files F) (answer : ℕ)
+      (accesses : List Access) : Type 0 where
+    -- as a number with a sign it is not above 0 (EINVAL is 22)
+    HasNoSize :
+        (size ≡ 0) ⊎ (2 ^ 31 ≤ size) → new ≡ old → bytes' ≡ bytes → accesses ≡ []
+        → answer ≡ error 22 → ReadsLink beside path a size old new answer accesses
+    IsForbiddenLink :
+        TakesPath bytes old.descriptors beside path (Err answer) accesses
+        → new ≡ old → bytes' ≡ bytes → ReadsLink beside path a size old new answer accesses
+    IsNoLink : (text : List ℕ) (folder : F)
+        → TakesPath bytes old.descriptors beside path (Ok text) accesses
+        → FindsLink did text old.folder folder (Err answer)
+        → new ≡ record old { folder = folder } → bytes' ≡ bytes
+        → ReadsLink beside path a size old new answer accesses
+    IsLink : (text target : List ℕ) (folder : F) (first later : List Access) (put : ℕ)
+        → TakesPath bytes old.descriptors beside path (Ok text) first
+        → FindsLink did text old.folder folder (Ok target)
+        → new ≡ record old { folder = folder }
+        → PutsBytes writable bytes bytes' a (take size target) later put
+        → accesses ≡ first ++ later → answer ≡ link_answer put (min size (length target))
+        → ReadsLink beside path a size old new answer accesses
 
   -- utimensat: the times at a are read, and then the path
   pub data SetsTimes (beside path a : ℕ) (old new : Files F) (answer : ℕ) (accesses : List Access)
@@ -380,9 +454,13 @@ module _ {F : Type 0} (did : Did F) (writable : ℕ → Bool) (bytes bytes' : By
   DoesFile (FileRequest.WritePieces descriptor a count) old new answer accesses =
       WritesFilePieces did bytes descriptor a count old new answer accesses × (bytes' ≡ bytes)
   DoesFile (FileRequest.Status descriptor a) old new answer accesses =
-      TellsFile descriptor a old new answer accesses
+      TellsFile descriptor a Form.Stat64 old new answer accesses
   DoesFile (FileRequest.NamedStatus beside path flags a) old new answer accesses =
-      TellsNamed beside path flags a old new answer accesses
+      TellsNamed beside path flags a Form.Stat64 old new answer accesses
+  DoesFile (FileRequest.ExtendedStatus beside path flags a) old new answer accesses =
+      TellsNamed beside path flags a Form.Statx old new answer accesses
+  DoesFile (FileRequest.Link beside path a size) old new answer accesses =
+      ReadsLink beside path a size old new answer accesses
   DoesFile (FileRequest.ChangeFile descriptor change) old new answer accesses =
       Changes did descriptor change old new answer × (bytes' ≡ bytes) × (accesses ≡ [])
   DoesFile (FileRequest.Own descriptor owner group) old new answer accesses =

@@ -10,6 +10,8 @@ use Rattle.rrs_files.specs.declared.folder.NameChange.{NameChange}
 pub data Event : Type 0 where
   -- lstat(2)
   Looked : (path : List ℕ) → Result Status ℕ → Event
+  -- readlink(2)
+  LinkTold : (path : List ℕ) → Result (List ℕ) ℕ → Event
   -- open(2), close(2), and read(2) of so many bytes at most, or, from an offset, pread(2)
   Opened : (at : ℕ) → (path : List ℕ) → How → Option ℕ → Event
   Closed : (at : ℕ) → Event

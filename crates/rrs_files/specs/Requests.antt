@@ -1,30 +1,30 @@
 -- Which calls for files there are (the Linux system call convention of RISC-V with 32 bits, as
 -- rrs_linux restates it; the numbers are those of asm-generic/unistd.h). A call on a descriptor
--- from 0 to 2 is for the standard streams, and so for the other environment, as is each call that
--- is not here.
-use Rattle.std.specs.Prelude.{◌≡◌, ◌≢◌, ◌⊎◌, ℕ, ◌+◌, ◌*◌, ◌^◌, ◌<◌, ◌≤◌, ◌==◌, ◌||◌, not, bit_and, Bool, Option, Some, None}
+-- from 0 to 2, but for close, fcntl64 and those that take a path, is for the standard streams, and
+-- so for the other environment, as is each call that is not here.
+use Rattle.std.specs.Prelude.{◌≡◌, ◌≢◌, ◌⊎◌, ℕ, ◌+◌, ◌*◌, ◌^◌, ◌<◌, ◌≤◌, ◌==◌, ◌||◌, not, bit_and, Bool, true, false, Option, Some, None}
 use Rattle.rrs_lib.specs.Machine.{State, reg}
-use Rattle.rrs_linux.specs.Requests.{error}
+use Rattle.rrs_linux.specs.Requests.{are_flags, are_statx_flags, error}
 use Rattle.rrs_files.specs.declared.folder.Change.TheVariants.{Length, Flush, FlushBytes, Mode}
 use Rattle.rrs_files.specs.declared.folder.How.{How}
 use Rattle.rrs_files.specs.declared.folder.NameChange.TheVariants.{Remove, RemoveDirectory, MakeDirectory}
 use Rattle.rrs_files.specs.declared.requests.FileRequest.{FileRequest}
-use Rattle.rrs_files.specs.declared.requests.FileRequest.TheVariants.{Open, Close, Seek, Read, ReadAt, Write, WriteAt, Status, NamedStatus, ChangeFile, Own, ChangeName, Rename, Test, Control, SetTimes, Folder, Refused}
+use Rattle.rrs_files.specs.declared.requests.FileRequest.TheVariants.{Open, Close, CloseStream, Copy, CopyTo, Seek, List, Read, ReadAt, Write, WriteAt, WritePieces, Status, NamedStatus, ExtendedStatus, Link, ChangeFile, Own, ChangeName, Rename, Test, Control, ControlDevice, SetTimes, Folder, Refused}
 
--- fstatat64, close, read, write, fstat64, _llseek, statx, ftruncate64, fsync, fdatasync, fchmod,
--- fchown, pread64 and pwrite64, whose first argument is a descriptor
+-- dup, getdents64, read, write, fstat64, _llseek, ftruncate64, fsync, fdatasync, fchmod, fchown,
+-- pread64, pwrite64, writev and ioctl, whose first argument is a descriptor
 abbrev pub TakesDescriptor : ℕ → Type 0
 TakesDescriptor call =
-    (call ≡ 79) ⊎ (call ≡ 57) ⊎ (call ≡ 63) ⊎ (call ≡ 64) ⊎ (call ≡ 80) ⊎ (call ≡ 62)
-    ⊎ (call ≡ 291) ⊎ (call ≡ 46) ⊎ (call ≡ 82) ⊎ (call ≡ 83) ⊎ (call ≡ 52) ⊎ (call ≡ 55)
-    ⊎ (call ≡ 67) ⊎ (call ≡ 68)
+    (call ≡ 61) ⊎ (call ≡ 63) ⊎ (call ≡ 64) ⊎ (call ≡ 80) ⊎ (call ≡ 62) ⊎ (call ≡ 46)
+    ⊎ (call ≡ 82) ⊎ (call ≡ 83) ⊎ (call ≡ 52) ⊎ (call ≡ 55) ⊎ (call ≡ 67) ⊎ (call ≡ 68)
+    ⊎ (call ≡ 23) ⊎ (call ≡ 66) ⊎ (call ≡ 29)
 
--- openat, unlinkat, mkdirat, faccessat, renameat2, utimensat_time64 and getcwd, which name a file,
--- and fcntl64, of a file or of a stream
+-- openat, unlinkat, mkdirat, faccessat, renameat2, utimensat_time64, readlinkat, fstatat64, statx
+-- and getcwd, which name a file, and fcntl64 and close, of a file or of a stream
 abbrev pub IsOfFiles : ℕ → Type 0
 IsOfFiles call =
     (call ≡ 56) ⊎ (call ≡ 35) ⊎ (call ≡ 34) ⊎ (call ≡ 48) ⊎ (call ≡ 276) ⊎ (call ≡ 412)
-    ⊎ (call ≡ 17) ⊎ (call ≡ 25)
+    ⊎ (call ≡ 78) ⊎ (call ≡ 79) ⊎ (call ≡ 291) ⊎ (call ≡ 17) ⊎ (call ≡ 25) ⊎ (call ≡ 57)
 
 -- what a call with this number and these arguments asks for
 pub data AsksFileBy (call a0 a1 a2 a3 a4 : ℕ) (request : Option FileRequest) : Type 0 where
@@ -58,6 +58,9 @@ pub data AsksFileBy (call a0 a1 a2 a3 a4 : ℕ) (request : Option FileRequest) :
   ToTestSo :
       call ≡ 48 → 7 < a2 → request ≡ Some (Refused (error 22))
       → AsksFileBy call a0 a1 a2 a3 a4 request
+  -- readlinkat (readlink(2)): where the text is put, and how many bytes of it
+  ToReadLink :
+      call ≡ 78 → request ≡ Some (Link a0 a1 a2 a3) → AsksFileBy call a0 a1 a2 a3 a4 request
   -- getcwd(2)
   ToTellFolder :
       call ≡ 17 → request ≡ Some (Folder a0 a1) → AsksFileBy call a0 a1 a2 a3 a4 request
@@ -90,7 +93,11 @@ pub data AsksFileBy (call a0 a1 a2 a3 a4 : ℕ) (request : Option FileRequest) :
       → AsksFileBy call a0 a1 a2 a3 a4 request
   -- fstatat64 (fstatat(2)): the status is put at a2, and the flags are a3
   ToGetNamed :
-      call ≡ 79 → 2 < a0 → request ≡ Some (NamedStatus a0 a1 a3 a2)
+      call ≡ 79 → are_flags a3 ≡ true → request ≡ Some (NamedStatus a0 a1 a3 a2)
+      → AsksFileBy call a0 a1 a2 a3 a4 request
+  ToGetNamedSo :
+      call ≡ 79 → are_flags a3 ≡ false → request ≡ Some (Refused (error 22))
+      → AsksFileBy call a0 a1 a2 a3 a4 request
   -- dup(2), and dup3, both of whose descriptors are of files
   ToCopy : call ≡ 23 → 2 < a0 → request ≡ Some (Copy a0) → AsksFileBy call a0 a1 a2 a3 a4 request
   ToCopyTo :
@@ -124,9 +131,13 @@ pub data AsksFileBy (call a0 a1 a2 a3 a4 : ℕ) (request : Option FileRequest) :
   ToSeek :
       call ≡ 62 → 2 < a0 → request ≡ Some (Seek a0 (a1 * 2 ^ 32 + a2) a4 a3)
       → AsksFileBy call a0 a1 a2 a3 a4 request
-  -- statx is not served: a C library takes fstatat64 then (ENOSYS is 38)
+  -- statx(2): the flags are a2, the mask a3, of which no more than the basic one is given, and the
+  -- status is put at a4
   ToExtend :
-      call ≡ 291 → 2 < a0 → request ≡ Some (Refused (error 38))
+      call ≡ 291 → are_statx_flags a2 a3 ≡ true
+      → request ≡ Some (ExtendedStatus a0 a1 a2 a4) → AsksFileBy call a0 a1 a2 a3 a4 request
+  ToExtendSo :
+      call ≡ 291 → are_statx_flags a2 a3 ≡ false → request ≡ Some (Refused (error 22))
       → AsksFileBy call a0 a1 a2 a3 a4 request
   OfOther :
       (IsOfFiles call → ⊥) → (TakesDescriptor call → a0 ≤ 2)

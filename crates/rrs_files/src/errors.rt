@@ -28,7 +28,5 @@ pub const READ_ONLY: u32 = 0xffff_ffe2;
 pub const NO_ROOM: u32 = 0xffff_ffde;
 /// The path is too long, `ENAMETOOLONG` (36).
 pub const LONG_NAME: u32 = 0xffff_ffdc;
-/// There is no such call, `ENOSYS` (38).
-pub const NO_SUCH_CALL: u32 = 0xffff_ffda;
 /// A part of the path is a link, `ELOOP` (40).
 pub const IS_LINK: u32 = 0xffff_ffd8;

@@ -62,6 +62,9 @@ pub struct How {
     pub mode: u32,
 }
 
+/// The most bytes of the text of a link: `PATH_MAX`.
+pub const LINK_BYTES: usize = 4096;
+
 /// The most bytes of a name: `NAME_MAX`.
 pub const NAME_BYTES: usize = 255;
 
@@ -115,6 +118,16 @@ pub trait Folder {
     /// What a path names. A link as its last part is not followed.
     fn look(&mut self, path: &[u8]) -> Result<Status, u32>
         ensures { did self.old (Looked path.now result) self.new };
+
+    /// Puts the text of the link that a path names at the beginning of this room, and gives how
+    /// many bytes it has. No link has none.
+    fn link(&mut self, path: &[u8], room: &mut [u8; LINK_BYTES]) -> Result<usize, u32>
+        ensures some { IfOk result (λ size. 0 < size) }
+        ensures within { IfOk result (λ size. size ≤ 4096) }
+        ensures told { IfOk result (λ size.
+            did self.old (LinkTold path.now (Ok (take size room.new))) self.new) }
+        ensures failed { IfErr result (λ error.
+            did self.old (LinkTold path.now (Err error)) self.new) };
 
     /// Opens the file that a path names, at a number. Gives the error, if there is one.
     fn open(&mut self, at: usize, path: &[u8], how: How) -> Option<u32>

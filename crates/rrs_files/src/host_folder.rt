@@ -186,6 +186,21 @@ impl<'h, 'p, H: Files + AllocGlobal> Folder for HostFolder<'h, 'p, H> {
         }
     }
 
+    fn link(&mut self, path: &[u8], room: &mut [u8; LINK_BYTES]) -> Result<usize, u32> {
+        let path = self.below(path)?;
+        let target = match self.host.read_link(self.alloc, &path) {
+            Ok(target) => target,
+            Err(error) => return Err(error_of(&error)),
+        };
+        let text = target.to_str().unwrap_or("").as_bytes();
+        let size = text.len().min(LINK_BYTES);
+        if size == 0 {
+            return Err(NO_FILE);
+        }
+        room[..size].copy_from_slice(&text[..size]);
+        Ok(size)
+    }
+
     fn open(&mut self, at: usize, path: &[u8], how: How) -> Option<u32> {
         let path = match self.below(path) {
             Ok(path) => path,

@@ -16,7 +16,7 @@ use rrs_lib::{MemAccessSize, Memory};
 pub const PATH_BYTES: usize = 4096;
 
 /// The directory that the program is in, `AT_FDCWD`: -100.
-const WORKING_DIRECTORY: u32 = 0xffff_ff9c;
+pub const WORKING_DIRECTORY: u32 = 0xffff_ff9c;
 
 /// The byte between the parts of a path.
 const SLASH: u8 = 0x2f;

@@ -1,10 +1,11 @@
 //! What a program asks for of its files.
 
-ghost use Rattle.std.specs.Prelude.{◌≡◌, ◌<◌, ℕ, Bool, Option};
+ghost use Rattle.std.specs.Prelude.{◌≡◌, ◌<◌, ℕ, Bool, Option, Some};
 ghost use Rattle.rrs_lib.specs.Machine.{state_of};
+ghost use Rattle.rrs_linux.specs.Requests.{are_flags, are_statx_flags};
 ghost use Rattle.rrs_files.specs.Requests.{AsksFile, AsksFileBy, IsOfFiles, how_of};
 
-use crate::errors::{BAD_ARGUMENT, NO_SUCH_CALL};
+use crate::errors::BAD_ARGUMENT;
 use crate::folder::{Change, How, NameChange};
 use rrs_lib::HartState;
 
@@ -48,6 +49,8 @@ pub const WRITEV: u32 = 66;
 const PREAD64: u32 = 67;
 /// `pwrite64`.
 const PWRITE64: u32 = 68;
+/// `readlinkat`.
+const READLINKAT: u32 = 78;
 /// `fstatat64`.
 const FSTATAT64: u32 = 79;
 /// `fstat64`.
@@ -65,6 +68,13 @@ const UTIMENSAT: u32 = 412;
 
 /// The flag of `unlinkat` that removes a directory, `AT_REMOVEDIR`.
 const A_DIRECTORY_TOO: u32 = 0x200;
+
+/// No flags of `fstatat64` and `statx`: all but `AT_SYMLINK_NOFOLLOW`, `AT_NO_AUTOMOUNT`,
+/// `AT_EMPTY_PATH` and the two of `AT_STATX_SYNC_TYPE`.
+const NO_FLAGS: u32 = 0xffff_86ff;
+
+/// The two flags of `AT_STATX_SYNC_TYPE`, of which a call has one at most.
+const SYNC_TYPE: u32 = 0x6000;
 
 /// What a call asks for of the files.
 #[derive(Clone, Copy, Debug, PartialEq)]
@@ -100,6 +110,12 @@ pub enum FileRequest {
     /// To put the status of a file at an address: beside a descriptor, by the path at an address,
     /// with flags.
     NamedStatus(u32, u32, u32, u32),
+    /// To put the status of a file at an address as `statx` does: beside a descriptor, by the path
+    /// at an address, with flags.
+    ExtendedStatus(u32, u32, u32, u32),
+    /// To put the text of a link at an address: beside a descriptor, by the path at an address, and
+    /// so many bytes at most.
+    Link(u32, u32, u32, u32),
     /// To change the file of a descriptor.
     ChangeFile(u32, Change),
     /// To give the file of a descriptor an owner and a group, of which `0xffff_ffff` leaves one as
@@ -154,6 +170,9 @@ fn request_by(
 {
     match call {
         OPENAT => Some(FileRequest::Open(first, second, third, fourth)),
+        FSTATAT64 => Some(named_status(first, second, third, fourth)),
+        STATX => Some(extended_status(first, second, third, fourth, fifth)),
+        READLINKAT => Some(FileRequest::Link(first, second, third, fourth)),
         GETCWD => Some(FileRequest::Folder(first, second)),
         UNLINKAT if third == 0 => {
             Some(FileRequest::ChangeName(first, second, NameChange::Remove))
@@ -223,9 +242,44 @@ fn request_on(
         FDATASYNC => Some(FileRequest::ChangeFile(first, Change::FlushBytes)),
         FCHMOD => Some(FileRequest::ChangeFile(first, Change::Mode(second & 0o7777))),
         FCHOWN => Some(FileRequest::Own(first, second, third)),
-        STATX => Some(FileRequest::Refused(NO_SUCH_CALL)),
         _ => None,
     }
+}
+
+/// What `fstatat64` asks for with these arguments.
+fn named_status(first: u32, second: u32, third: u32, fourth: u32) -> FileRequest
+    ensures { (fifth : ℕ) → AsksFileBy 79 first second third fourth fifth (Some result) }
+{
+    if are_flags(fourth) {
+        FileRequest::NamedStatus(first, second, fourth, third)
+    } else {
+        FileRequest::Refused(BAD_ARGUMENT)
+    }
+}
+
+/// What `statx` asks for with these arguments.
+fn extended_status(first: u32, second: u32, third: u32, fourth: u32, fifth: u32) -> FileRequest
+    ensures { AsksFileBy 291 first second third fourth fifth (Some result) }
+{
+    if are_statx_flags(third, fourth) {
+        FileRequest::ExtendedStatus(first, second, third, fifth)
+    } else {
+        FileRequest::Refused(BAD_ARGUMENT)
+    }
+}
+
+/// Whether `fstatat64` takes these flags.
+fn are_flags(flags: u32) -> bool
+    ensures { result ≡ are_flags flags }
+{
+    flags & NO_FLAGS == 0
+}
+
+/// Whether `statx` takes these flags and this mask.
+fn are_statx_flags(flags: u32, mask: u32) -> bool
+    ensures { result ≡ are_statx_flags flags mask }
+{
+    are_flags(flags) && flags & SYNC_TYPE != SYNC_TYPE && mask < 1 << 31
 }
 
 /// How a file is opened by these flags and this mode.

@@ -77,10 +77,16 @@ impl<F: Folder> Files<F> {
                 self.write_pieces_from(memory, descriptor, address, count)
             }
             FileRequest::Status(descriptor, address) => {
-                self.put_status(memory, descriptor, address)
+                self.put_status(memory, descriptor, address, Form::Stat64)
             }
             FileRequest::NamedStatus(beside, path, flags, address) => {
-                self.put_named(memory, beside, path, flags, address)
+                self.put_named(memory, beside, path, flags, address, Form::Stat64)
+            }
+            FileRequest::ExtendedStatus(beside, path, flags, address) => {
+                self.put_named(memory, beside, path, flags, address, Form::Statx)
+            }
+            FileRequest::Link(beside, path, address, size) => {
+                self.put_link(memory, beside, path, address, size)
             }
             FileRequest::ChangeFile(descriptor, change) => self.change(descriptor, change),
             FileRequest::Own(descriptor, owner, group) => self.own(descriptor, owner, group),
@@ -332,10 +338,16 @@ impl<F: Folder> Files<F> {
     }
 
     /// Puts the status of a descriptor into memory, and gives the answer of the call.
-    fn put_status<M: Memory>(&mut self, memory: &mut M, descriptor: u32, address: u32) -> u32
+    fn put_status<M: Memory>(
+        &mut self,
+        memory: &mut M,
+        descriptor: u32,
+        address: u32,
+        form: Form,
+    ) -> u32
         ensures does { MakesSome M.reads M.writes
             (TellsFile F.did (M.writable memory.old) (M.bytes memory.old) (M.bytes memory.new)
-            descriptor address self.old self.new result)
+            descriptor address form self.old self.new result)
             memory.old memory.new }
         ensures writable_kept { M.writable memory.new ≡ M.writable memory.old }
         ensures layout_kept { M.layout memory.new ≡ M.layout memory.old }
@@ -345,7 +357,72 @@ impl<F: Folder> Files<F> {
         };
         match self.folder.status(place) {
             Err(error) => error,
-            Ok(status) => put_bytes(&status_bytes(&status), memory, address),
+            Ok(status) => put_told(memory, address, form, &status),
+        }
+    }
+
+    /// Puts the text of the link that a path names into memory, and gives the answer of the call.
+    fn put_link<M: Memory>(
+        &mut self,
+        memory: &mut M,
+        beside: u32,
+        path: u32,
+        address: u32,
+        size: u32,
+    ) -> u32
+        ensures does { MakesSome M.reads M.writes
+            (ReadsLink F.did (M.writable memory.old) (M.bytes memory.old) (M.bytes memory.new)
+            beside path address size self.old self.new result)
+            memory.old memory.new }
+        ensures writable_kept { M.writable memory.new ≡ M.writable memory.old }
+        ensures layout_kept { M.layout memory.new ≡ M.layout memory.old }
+    {
+        if size == 0 || size > i32::MAX as u32 {
+            return BAD_ARGUMENT;
+        }
+        let mut text = [0; PATH_BYTES];
+        let mut target = [0; LINK_BYTES];
+        let length = match self.path_at(memory, beside, path, &mut text) {
+            Err(error) => return error,
+            Ok(length) => length,
+        };
+        match find_link(&mut self.folder, &text[..length], &mut target) {
+            Err(error) => error,
+            Ok(found) => {
+                let most = (size as usize).min(found);
+                link_answer(put_bytes(&target[..most], memory, address), most as u32)
+            }
+        }
+    }
+
+    /// Puts the status of what an empty path is beside into memory, a file, a standard stream or
+    /// the working directory, and gives the answer of the call.
+    fn put_beside<M: Memory>(
+        &mut self,
+        memory: &mut M,
+        beside: u32,
+        address: u32,
+        form: Form,
+    ) -> u32
+        ensures does { MakesSome M.reads M.writes
+            (TellsBeside F.did (M.writable memory.old) (M.bytes memory.old) (M.bytes memory.new)
+            beside address form self.old self.new result)
+            memory.old memory.new }
+        ensures writable_kept { M.writable memory.new ≡ M.writable memory.old }
+        ensures layout_kept { M.layout memory.new ≡ M.layout memory.old }
+    {
+        if self.descriptors.is_closed_stream(beside) {
+            return BAD_DESCRIPTOR;
+        }
+        if beside <= 2 {
+            return put_stream(memory, address, form);
+        }
+        if beside != WORKING_DIRECTORY {
+            return self.put_status(memory, beside, address, form);
+        }
+        match self.folder.look(&[]) {
+            Err(error) => error,
+            Ok(status) => put_told(memory, address, form, &status),
         }
     }
 
@@ -357,10 +434,11 @@ impl<F: Folder> Files<F> {
         path: u32,
         flags: u32,
         address: u32,
+        form: Form,
     ) -> u32
         ensures does { MakesSome M.reads M.writes
             (TellsNamed F.did (M.writable memory.old) (M.bytes memory.old) (M.bytes memory.new)
-            beside path flags address self.old self.new result)
+            beside path flags address form self.old self.new result)
             memory.old memory.new }
         ensures writable_kept { M.writable memory.new ≡ M.writable memory.old }
         ensures layout_kept { M.layout memory.new ≡ M.layout memory.old }
@@ -369,17 +447,63 @@ impl<F: Folder> Files<F> {
         match self.path_at(memory, beside, path, &mut text) {
             Err(error) => {
                 if is_of_descriptor(error, flags) {
-                    self.put_status(memory, beside, address)
+                    self.put_beside(memory, beside, address, form)
                 } else {
                     error
                 }
             }
             Ok(size) => match naming(walk(&mut self.folder, &text[..size]), flags) {
                 Err(error) => error,
-                Ok(status) => put_bytes(&status_bytes(&status), memory, address),
+                Ok(status) => put_told(memory, address, form, &status),
             },
         }
     }
+}
+
+/// Reads the link that a path names, which is its last part, into this room, and gives how many
+/// bytes it has, or the error.
+fn find_link<F: Folder>(
+    folder: &mut F,
+    path: &[u8],
+    room: &mut [u8; LINK_BYTES],
+) -> Result<usize, u32>
+    ensures some { IfOk result (λ size. 0 < size) }
+    ensures within { IfOk result (λ size. size ≤ 4096) }
+    ensures found { IfOk result (λ size.
+        FindsLink F.did path.now folder.old folder.new (Ok (take size room.new))) }
+    ensures refused { IfErr result (λ error.
+        FindsLink F.did path.now folder.old folder.new (Err error)) }
+{
+    let named = walk(folder, path);
+    match linking(named) {
+        Some(error) => Err(error),
+        None => match folder.link(path, room) {
+            Ok(size) => Ok(size),
+            Err(error) => Err(error),
+        },
+    }
+}
+
+/// Why what a path names has no text of a link, if it has none.
+fn linking(named: Named) -> Option<u32>
+    ensures { result ≡ linking named }
+{
+    match named {
+        Named::Stopped(error) => Some(error),
+        Named::Missing => Some(NO_FILE),
+        Named::There(status) => if kind_of(&status) == IS_SYMBOLIC {
+            None
+        } else {
+            Some(BAD_ARGUMENT)
+        },
+    }
+}
+
+/// The answer of `readlinkat` where so many bytes were put with this answer.
+fn link_answer(put: u32, size: u32) -> u32
+    ensures { result ≡ link_answer put size }
+{
+    if put == 0 { size } else { put }
 }
 
 /// Reads the two times at an address, and gives the change to them, or the error.
@@ -469,7 +593,7 @@ fn listed_of(moved: Result<u64, u32>, size: u32) -> u32
     }
 }
 
-/// Whether a status is that of a descriptor, where the path has this error.
+/// Whether a status is that of what a path is beside, where the path has this error.
 fn is_of_descriptor(error: u32, flags: u32) -> bool
     ensures { result ≡ is_of_descriptor error flags }
 {

@@ -87,12 +87,19 @@ returns-in-Folder-clause-does g c =
 pub returns-in-List-clause-does : goal.returns-in-List-clause-does
 returns-in-List-clause-does g c = rw c.in-List.is c.list_to.ensures.does
 
+pub returns-in-Link-clause-does : goal.returns-in-Link-clause-does
+returns-in-Link-clause-does g c = rw c.in-Link.is c.put_link.ensures.does
+
 pub returns-in-Copy-clause-does : goal.returns-in-Copy-clause-does
 returns-in-Copy-clause-does g c =
     rw c.in-Copy.is (record { accesses = []; these = (c.copy.ensures, refl, refl); made = refl })
 
 pub returns-in-CopyTo-clause-does : goal.returns-in-CopyTo-clause-does
 returns-in-CopyTo-clause-does g c =
+    rw c.in-CopyTo.is (record { accesses = []; these = (c.copy_to.ensures, refl, refl); made = refl })
+
+pub returns-in-ExtendedStatus-clause-does : goal.returns-in-ExtendedStatus-clause-does
+returns-in-ExtendedStatus-clause-does g c =
     rw c.in-ExtendedStatus.is c.put_named-in-ExtendedStatus.ensures.does
 
 pub returns-in-CloseStream-clause-does : goal.returns-in-CloseStream-clause-does

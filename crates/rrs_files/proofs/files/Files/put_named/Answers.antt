@@ -1,6 +1,7 @@
-use Rattle.std.proofs.Common.{◌≡◌, take, refl, sym, ap, ◌∙◌}
+use Rattle.std.proofs.Common.{refl, sym, ◌∙◌}
 use Rattle.rrs_linux.specs.Statuses.{PutsBytes}
-use Rattle.rrs_files.specs.Calls.{IsOfDescriptor, IsForbiddenPath, HasNoStatus, IsToldByName, TellsFile}
+use Rattle.rrs_files.specs.Calls.{IsOfDescriptor, IsForbiddenPath, HasNoStatus, IsToldByName, TellsBeside}
+use Rattle.rrs_files.specs.Statuses.{told_bytes}
 use Rattle.rrs_files.proofs.Buffers.{later}
 use Rattle.rrs_files.proofs.files.Files.put_named.Goals as goal
 
@@ -10,14 +11,14 @@ returns-then-is_of_descriptor-clause-does g c =
     let took = c.in-Err.ensures.refused in
     let kept = c.path_at.ensures in
     later memory.reads memory.writes
-    (λ w b xs. TellsFile g.F.Folder.did w b (memory.bytes c.put_status.new.memory) c.args.beside c.args.address
-    c.args.self.now c.put_status.new.self c.put_status.result xs)
+    (λ w b xs. TellsBeside g.F.Folder.did w b (memory.bytes c.put_beside.new.memory) c.args.beside c.args.address
+    c.args.form c.args.self.now c.put_beside.new.self c.put_beside.result xs)
     (memory.writable c.args.memory.now) (memory.writable c.path_at.new.memory)
     (memory.bytes c.args.memory.now) (memory.bytes c.path_at.new.memory) took.accesses
     kept.writable_kept kept.bytes_kept
     (λ xs tells. IsOfDescriptor c.in-Err.error took.accesses xs took.these
     (sym c.is_of_descriptor.ensures ∙ c.if-is_of_descriptor.true) tells refl)
-    took.made c.put_status.ensures.does
+    took.made c.put_beside.ensures.does
 
 pub returns-else-is_of_descriptor-clause-does : goal.returns-else-is_of_descriptor-clause-does
 returns-else-is_of_descriptor-clause-does g c =
@@ -45,11 +46,11 @@ returns-in-Ok-naming-clause-does g c =
     let took = c.in-Ok.ensures.taken in
     let kept = c.path_at.ensures in
     later memory.reads memory.writes
-    (λ w b xs. PutsBytes w b (memory.bytes c.put_bytes.new.memory) c.args.address c.status_bytes.result xs
-    c.put_bytes.result)
+    (λ w b xs. PutsBytes w b (memory.bytes c.put_told.new.memory) c.args.address (told_bytes c.args.form c.in-Ok-naming.status) xs
+    c.put_told.result)
     (memory.writable c.args.memory.now) (memory.writable c.path_at.new.memory)
     (memory.bytes c.args.memory.now) (memory.bytes c.path_at.new.memory) took.accesses
     kept.writable_kept kept.bytes_kept
     (λ xs put. IsToldByName _ c.walk.result c.walk.new.folder c.in-Ok-naming.status took.accesses xs took.these
-    c.walk.ensures (sym c.in-Ok-naming.ensures) refl (rw c.status_bytes.ensures at put) refl)
-    took.made c.put_bytes.ensures.put
+    c.walk.ensures (sym c.in-Ok-naming.ensures) refl put refl)
+    took.made c.put_told.ensures.put

@@ -1,4 +1,4 @@
-use Rattle.std.proofs.Common.{◌≡◌, [], refl}
+use Rattle.std.proofs.Common.{[], refl}
 use Rattle.rrs_files.specs.Calls.{TellFailed, IsTold}
 use Rattle.rrs_files.proofs.files.Files.put_status.Goals as goal
 
@@ -11,10 +11,10 @@ returns-in-Err-clause-does g c = record {
 
 pub returns-in-Ok-clause-does : goal.returns-in-Ok-clause-does
 returns-in-Ok-clause-does g c =
-    let put = c.put_bytes.ensures.put in
+    let put = c.put_told.ensures.put in
     record {
       accesses = put.accesses;
       these = IsTold c.in-Some.place c.status.new.self c.in-Ok.status c.in-Some.ensures c.in-Ok.ensures refl
-          (rw c.status_bytes.ensures at put.these);
+          put.these;
       made = put.made;
     }
