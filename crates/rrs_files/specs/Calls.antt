@@ -150,6 +150,17 @@ pub data FindsLink {F : Type 0} (did : Did F) (path : List ℕ) (old new : F)
       → Walks did path old mid named → linking named ≡ None → did mid (LinkTold path target) new
       → FindsLink did path old new target
 
+-- The position of a file goes on by what was given of a read. It is moved back by so many bytes
+-- that are left (lseek(2): SEEK_CUR is 1, and the offset is modulo 2^64), where there are some, and
+-- where the read was not from an offset, which moves no position.
+pub data MovesBack {F : Type 0} (did : Did F) (place : ℕ) (from : Option ℕ) (left : ℕ) (old new : F)
+    : Type 0 where
+  IsThere :
+      (left ≡ 0) ⊎ (from ≢ None) → new ≡ old → MovesBack did place from left old new
+  IsMovedBack : (moved : Result ℕ ℕ)
+      → 0 < left → from ≡ None → did old (Sought place 1 (2 ^ 64 - left) moved) new
+      → MovesBack did place from left old new
+
 -- By what a folder says of a call, and by the bytes of memory, which stay:
 module _ {F : Type 0} (did : Did F) (bytes : ByteMap) where
   -- write and, from an offset, pwrite64: at once, so many bytes at most, from a on
@@ -256,11 +267,13 @@ module _ {F : Type 0} (did : Did F) (writable : ℕ → Bool) (bytes bytes' : By
         → did old.folder (Gave place from (min count most_of_file) (Err answer)) folder
         → new ≡ record old { folder = folder } → bytes' ≡ bytes → accesses ≡ []
         → ReadsFile descriptor from a count old new answer accesses
-    IsGiven : (place : ℕ) (folder : F) (text left : List ℕ)
-        → IsOpen old.descriptors.are_open descriptor place → a + count ≤ 2 ^ 32
-        → did old.folder (Gave place from (min count most_of_file) (Ok text)) folder
-        → new ≡ record old { folder = folder }
+    -- those that find no room are the next still
+    IsGiven : (place : ℕ) (mid folder : F) (text left : List ℕ)
+        → IsOpen old.descriptors.files descriptor place → a + count ≤ 2 ^ 32
+        → did old.folder (Gave place from (min count most_of_file) (Ok text)) mid
         → GivesText writable bytes bytes' a (min count most_of_file) text left answer accesses
+        → MovesBack did place from (length left) mid folder
+        → new ≡ record old { folder = folder }
         → ReadsFile descriptor from a count old new answer accesses
 
   -- _llseek: the position is put at a, in 8 bytes

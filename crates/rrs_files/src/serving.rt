@@ -1,22 +1,26 @@
 //! An environment that serves the calls for files.
 
-ghost use Rattle.std.specs.Prelude.{◌≡◌, ◌<◌, ◌≤◌, ◌+◌, ℕ, Bool, Option, Some, None, length, IfOk, IfErr, Ok, Err, take, slice_index, true, false};
+ghost use Rattle.std.specs.Prelude.{◌≡◌, ◌<◌, ◌≤◌, ◌+◌, ◌&&◌, ℕ, Bool, Option, Some, None, length, IfOk, IfErr, Ok, Err, take, slice_index, true, false};
 ghost use Rattle.rrs_lib.specs.Bytes.{little_endian};
 ghost use Rattle.rrs_lib.specs.Machine.{state_of};
 ghost use Rattle.rrs_linux.specs.SystemCalls.{answered};
 ghost use Rattle.rrs_linux.specs.Transfers.{Stands};
 ghost use Rattle.rrs_fast.specs.Serving.{MakesSome};
 ghost use Rattle.rrs_files.specs.Acts.{ChangesName, Opens, Renames, Tests};
-ghost use Rattle.rrs_files.specs.Calls.{ByPath, ByPaths, DoesFile, IsMoment, ReadsFile, SeeksFile, ServesFiles, SetsTimes, TakesPath, TakesTimes, TellsFile, TellsFolder, TellsNamed, WritesFile, folder_answer, is_of_descriptor, naming, times_of};
+ghost use Rattle.rrs_files.specs.Descriptors.{is_closed_stream};
+ghost use Rattle.rrs_files.specs.Calls.{ByPath, ByPaths, DoesFile, FindsLink, IsMoment, ListsFile, MovesBack, ReadsFile, ReadsLink, SeeksFile, ServesFiles, SetsTimes, TakesPath, TakesTimes, TellsBeside, TellsFile, TellsFolder, TellsNamed, folder_answer, asks_closed, is_of_descriptor, is_of_stream, link_answer, linking, listed_of, naming, times_of};
 
 use crate::descriptors::Descriptors;
 use crate::entries::read_directory;
 use crate::errors::{BAD_ADDRESS, BAD_ARGUMENT, BAD_DESCRIPTOR, IS_LINK, NO_FILE, NO_ROOM};
 use crate::files::Files;
-use crate::folder::{Folder, Moment, NameChange, Status};
-use crate::paths::{IS_SYMBOLIC, Named, PATH_BYTES, kind_of, read_path, refusal_of, walk};
-use crate::requests::{FileRequest, file_request_of};
-use crate::statuses::status_bytes;
+use crate::folder::{Folder, LINK_BYTES, Moment, NameChange, Status};
+use crate::paths::{
+    IS_SYMBOLIC, Named, PATH_BYTES, WORKING_DIRECTORY, kind_of, read_path, refusal_of, walk,
+};
+use crate::requests::{FSTAT64, FileRequest, IOCTL, LLSEEK, READ, WRITE, WRITEV, file_request_of};
+use crate::statuses::{Form, put_stream, put_told};
+use arrayvec::ArrayVec;
 use rrs_fast::Environment;
 use rrs_lib::instruction_executor::InstructionExecutor;
 use rrs_lib::{HartState, Memory};
@@ -24,6 +28,9 @@ use rrs_linux::{copy_chunk, give_bytes, most_of, put_bytes};
 
 /// The most bytes that one call reads or writes of a file.
 pub const CHUNK: usize = 65_536;
+
+/// From where a position is moved: from where it is, `SEEK_CUR`.
+const FROM_POSITION: u32 = 1;
 
 /// How many bytes two times have.
 const TIMES: u32 = 32;
@@ -270,7 +277,11 @@ impl<F: Folder> Files<F> {
         let mut chunk = [0; CHUNK];
         match self.folder.read(place, from, most as usize, &mut chunk) {
             Err(error) => error,
-            Ok(size) => give_bytes(&chunk[..size], memory, address, most).1,
+            Ok(size) => {
+                let (given, answer) = give_bytes(&chunk[..size], memory, address, most);
+                move_back(&mut self.folder, place, from, size - given);
+                answer
+            }
         }
     }
 
@@ -456,6 +467,24 @@ impl<F: Folder> Files<F> {
                 Err(error) => error,
                 Ok(status) => put_told(memory, address, form, &status),
             },
+        }
+    }
+}
+
+/// Moves the position of a file back by the bytes that were read and found no room: so many. A read
+/// from an offset has moved none.
+fn move_back<F: Folder>(folder: &mut F, place: usize, from: Option<u64>, left: usize)
+    requires { place ≤ 63 }
+    ensures { MovesBack F.did place from left folder.old folder.new }
+{
+    if left == 0 {
+        return;
+    }
+    match from {
+        Some(_) => {}
+        None => {
+            let back = u64::MAX - (left as u64 - 1);
+            let _moved = folder.seek(place, FROM_POSITION, back);
         }
     }
 }
