@@ -17,6 +17,7 @@
 #include <string.h>
 #include <sys/ioctl.h>
 #include <sys/mman.h>
+#include <sys/random.h>
 #include <sys/resource.h>
 #include <sys/stat.h>
 #include <sys/time.h>
@@ -406,22 +407,73 @@ int poll(struct pollfd *of, nfds_t count, int wait)
     return call(414, (long)of, count, wait < 0 ? 0 : (long)time, 0, 0);
 }
 
-// Folders are not read.
+// A folder that is open: entries as Linux gives them, `next` the one that is read next.
+struct _dir {
+    int fd;
+    size_t next;
+    size_t size;
+    long long position;
+    struct dirent entry;
+    char bytes[4096];
+};
+
+DIR *fdopendir(int fd)
+{
+    DIR *folder = malloc(sizeof *folder);
+    if (!folder) {
+        return none(ENOMEM);
+    }
+    folder->fd = fd;
+    folder->next = folder->size = folder->position = 0;
+    return folder;
+}
+
 DIR *opendir(const char *path)
 {
-    (void)path;
-    return none(ENOSYS);
+    int fd = open(path, O_RDONLY | O_DIRECTORY | O_CLOEXEC);
+    DIR *folder = fd < 0 ? NULL : fdopendir(fd);
+    if (fd >= 0 && !folder) {
+        close(fd);
+    }
+    return folder;
 }
+
+// struct linux_dirent64: a number and the position after it in 8 bytes each, its size in 2, its
+// kind, and its name from the 20th byte on.
 struct dirent *readdir(DIR *folder)
 {
-    (void)folder;
-    return none(EBADF);
+    if (folder->next == folder->size) {
+        long size = call(61, folder->fd, (long)folder->bytes, sizeof folder->bytes, 0, 0);
+        folder->next = 0;
+        folder->size = size < 0 ? 0 : size;
+        if (size <= 0) {
+            return NULL;
+        }
+    }
+    const char *entry = folder->bytes + folder->next;
+    unsigned short size;
+    memcpy(&folder->entry.d_ino, entry, sizeof folder->entry.d_ino);
+    memcpy(&folder->position, entry + 8, sizeof folder->position);
+    memcpy(&size, entry + 16, sizeof size);
+    folder->entry.d_type = entry[18];
+    strcpy(folder->entry.d_name, entry + 19);
+    folder->next += size;
+    return &folder->entry;
 }
-void rewinddir(DIR *folder) { (void)folder; }
+
+void seekdir(DIR *folder, long position)
+{
+    folder->next = folder->size = 0;
+    folder->position = lseek(folder->fd, position, SEEK_SET);
+}
+long telldir(DIR *folder) { return folder->position; }
+void rewinddir(DIR *folder) { seekdir(folder, 0); }
+int dirfd(DIR *folder) { return folder->fd; }
 int closedir(DIR *folder)
 {
-    (void)folder;
-    return fail(EBADF);
+    int fd = folder->fd;
+    free(folder);
+    return close(fd);
 }
 
 // Users. Where the environment has none, the number is 0.
@@ -588,6 +640,24 @@ int getrusage(int of, struct rusage *usage)
         return -1;
     }
     *usage = (struct rusage){.ru_utime = {.tv_sec = time.tv_sec, .tv_usec = time.tv_nsec / 1000}};
+    return 0;
+}
+
+// Random numbers.
+ssize_t getrandom(void *bytes, size_t size, unsigned flags) { return call(278, (long)bytes, size, flags, 0, 0); }
+
+int getentropy(void *bytes, size_t size)
+{
+    if (size > 256) {
+        return fail(EIO);
+    }
+    for (size_t have = 0; have < size;) {
+        ssize_t more = getrandom((char *)bytes + have, size - have, 0);
+        if (more < 0) {
+            return -1;
+        }
+        have += more;
+    }
     return 0;
 }
 

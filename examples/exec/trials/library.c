@@ -11,6 +11,7 @@
 #include <string.h>
 #include <sys/ioctl.h>
 #include <sys/mman.h>
+#include <sys/random.h>
 #include <sys/resource.h>
 #include <sys/stat.h>
 #include <sys/time.h>
@@ -22,7 +23,7 @@
 #include <utime.h>
 
 static const char *const names[] = {
-    [0] = "no error", [ENOENT] = "ENOENT", [EBADF] = "EBADF", [ECHILD] = "ECHILD",
+    [0] = "no error", [ENOENT] = "ENOENT", [EIO] = "EIO", [EBADF] = "EBADF", [ECHILD] = "ECHILD",
     [EAGAIN] = "EAGAIN", [EINVAL] = "EINVAL", [ENOTTY] = "ENOTTY", [ERANGE] = "ERANGE",
     [ENOSYS] = "ENOSYS", [ENAMETOOLONG] = "ENAMETOOLONG",
 };
@@ -173,6 +174,10 @@ static void time_and_machine(void)
     SAYS(usleep(1));
     SAYS(getrusage(RUSAGE_SELF, &usage));
     SAYS(getrusage(9, &usage));
+    SAYS(getrandom(room, 9, 0));
+    SAYS(getrandom(room, 9, 8));
+    SAYS(getentropy(room, 256));
+    SAYS(getentropy(room, 257));
     SAYS(uname(&machine));
     SAYS(gethostname(room, sizeof room));
     SAYS(sysconf(_SC_PAGESIZE));
