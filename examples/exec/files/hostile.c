@@ -1,8 +1,10 @@
 // Makes the calls that its input asks for, a line for each: a letter, a place of an open file, a
 // blank, and a path in hexadecimal.
+#include <dirent.h>
 #include <errno.h>
 #include <fcntl.h>
 #include <stdio.h>
+#include <string.h>
 #include <sys/stat.h>
 #include <unistd.h>
 #include <utime.h>
@@ -22,6 +24,22 @@ static int opens(int *place, int flags, int mode)
     return *place = open(path, flags, mode);
 }
 
+// The names in a folder: how many bytes they have.
+static long long names(void)
+{
+    DIR *folder = opendir(path);
+    long long size = 0;
+    struct dirent *entry;
+    if (!folder) {
+        return -1;
+    }
+    while ((entry = readdir(folder))) {
+        size += strlen(entry->d_name) + 1000 * entry->d_type;
+    }
+    closedir(folder);
+    return size;
+}
+
 static long long does(int call, int *place)
 {
     struct stat status = {0};
@@ -37,6 +55,7 @@ static long long does(int call, int *place)
     case 'l': return lstat(path, &status) == 0 ? (long long)status.st_mode : -1;
     case 'm': return mkdir(path, 0755);
     case 'd': return rmdir(path);
+    case 'g': return names();
     case 'n': return rename(path, "f0");
     case 'o': return rename("f1", path);
     case 'c': return access(path, R_OK | W_OK);
@@ -51,6 +70,7 @@ static long long does(int call, int *place)
     case 'E': return lseek(*place, 0, SEEK_END);
     case 'T': return ftruncate(*place, 5);
     case 'F': return fstat(*place, &status) == 0 ? (long long)status.st_size : -1;
+    case 'D': answer = dup(*place); return answer < 0 ? answer : close(answer);
     case 'G': return fcntl(*place, F_GETFL);
     }
     return -2;

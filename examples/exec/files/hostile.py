@@ -37,7 +37,7 @@ LINKS = {
 NAMES = [b"..", b".", b"", b"dir", b"deep", b"file", b"up", b"abs", b"rel", b"out", b"loop",
          b"dangling", b"root", b"in", b"secret", b"etc", b"passwd", b"new", b"n" * 300, b"\xff",
          b"...", b"..x", b"x..", "é".encode(), b"room", b"box", b"fifo", b"f0", b"f1", b"a\0b"]
-BY_PLACE = "CRWSETFG"
+BY_PLACE = "CRWSETFGD"
 # one of each call that takes a path: its name, and the path
 TRACED = re.compile(r'^\d+ +(\w+)\([^"\n]*"([^"]*)"', re.M)
 
@@ -99,7 +99,7 @@ def hostile(dice):
 def tame(dice, call):
     """A path that leads nowhere else, with a name of a file or of a folder."""
     parts = [dice.choice(["d0", "d1", "."]) for _ in range(dice.randint(0, 2))]
-    kind = "d" if call in "md" else dice.choice("fd") if call in "slct" else "f"
+    kind = "d" if call in "md" else dice.choice("fd") if call in "slctg" else "f"
     return "/".join(parts + [kind + str(dice.randint(0, 3))]).encode()
 
 
@@ -145,7 +145,7 @@ def is_below(path):
     if len(path) >= 4095:
         # strace has cut the last part
         parts.pop()
-    return path in ("", BOX) or path.startswith(BOX + "/./") and ".." not in parts
+    return path in ("", BOX, BOX + "/.") or path.startswith(BOX + "/./") and ".." not in parts
 
 
 def hostile_round(seed, start):
@@ -154,7 +154,7 @@ def hostile_round(seed, start):
     if seed % 10 == 9:
         shutil.rmtree(BOX + "/dir")
     before = tree(ROOM)
-    asked = lines(dice, 200, "rwaxuslmdnoctkhi" + BY_PLACE, lambda _: hostile(dice))
+    asked = lines(dice, 200, "rwaxuslmdnoctkhig" + BY_PLACE, lambda _: hostile(dice))
     option = "--files-read-only" if seed % 4 == 3 else "--files"
     meanwhile = removes if seed % 5 == 2 else lambda done: None
     printed, calls = traced(asked, option, meanwhile)
@@ -175,7 +175,7 @@ def hostile_round(seed, start):
 
 def tame_round(seed):
     dice = random.Random(seed)
-    asked = lines(dice, 100, "rwaxuslmdnoct" + BY_PLACE, lambda call: tame(dice, call))
+    asked = lines(dice, 100, "rwaxuslmdnoctg" + BY_PLACE, lambda call: tame(dice, call))
     seen = []
     for command in [["qemu-riscv32", PROGRAM], [RRS, "exec", "--files", ".", PROGRAM]]:
         folder = f"{ROOM}/tame{len(seen)}"
