@@ -17,6 +17,7 @@ use rrs_run_commands::files::{Noting, STANDARD_OUTPUT, read_program};
 use rrs_run_commands::options::Task;
 use rrs_run_commands::refusal::{Refusal, named, no_image, out_of_memory, unloaded};
 use rrs_run_commands::requests::Request;
+use rrs_run_commands::variables::variables_of;
 use std::alloc::Global;
 use std::env;
 use std::io::{BufReader, Read, Write};
@@ -133,8 +134,11 @@ fn debug_executable<'f, 'a, R: Read, W: Write>(
 ) -> Result<SessionEnd, Refusal<'a>> {
     let path = program.request.path();
     let arguments = words_of(alloc, &program.request, state)?;
+    let Ok(variables) = variables_of(alloc, program.request) else {
+        return Err(out_of_memory());
+    };
     let memory = memory_for(program.file, program.request.memory);
-    let loaded = load_process(alloc, program.file, &arguments, memory);
+    let loaded = load_process(alloc, program.file, &arguments, &variables, memory);
     let LoadedProcess { image, memory } = match loaded {
         Ok(process) => process,
         Err(error) => return Err(no_image(path, program.file, error)),

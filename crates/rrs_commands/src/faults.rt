@@ -76,7 +76,10 @@ impl fmt::Display for ToldImageError {
             ImageError::NeedsMemory(bytes) => {
                 write!(f, "it needs {bytes} bytes of memory: --memory {bytes}")
             }
-            ImageError::LongArguments => f.write_str("the arguments do not fit in the stack"),
+            ImageError::LongArguments => {
+                f.write_str("the arguments and the environment do not fit in the stack: ")?;
+                f.write_str("--memory gives it more")
+            }
             ImageError::Refused(address) => write!(f, "cannot load at address 0x{address:08x}"),
             ImageError::OutOfMemory => f.write_str("out of memory"),
         }

@@ -114,8 +114,8 @@ const TRACE: Subcommand = Subcommand {
     task: Task::Trace,
     command: Command {
         name: "rrs trace",
-        usage: "rrs trace [--limit STEPS] [--memory BYTES] [--clock fixed] [--from ADDRESS|SYMBOL]
-    [--output FILE] PROGRAM [ARGUMENT] ..
+        usage: "rrs trace [--limit STEPS] [--memory BYTES] [--clock fixed] [--env NAME=VALUE] ..
+    [--from ADDRESS|SYMBOL] [--output FILE] PROGRAM [ARGUMENT] ..
        rrs trace --board [--limit STEPS] [--memory BYTES] [--input polled] [--raw]
            [--dtb FILE] [--append TEXT] [--symbols FILE] [--from ADDRESS|SYMBOL]
            [--output FILE] PROGRAM",
@@ -144,8 +144,8 @@ const COVER: Subcommand = Subcommand {
     task: Task::Cover,
     command: Command {
         name: "rrs cover",
-        usage: "rrs cover [--limit STEPS] [--memory BYTES] [--clock fixed] [--annotate]
-    [--callgrind FILE] [--output FILE] PROGRAM [ARGUMENT] ..
+        usage: "rrs cover [--limit STEPS] [--memory BYTES] [--clock fixed] [--env NAME=VALUE] ..
+    [--annotate] [--callgrind FILE] [--output FILE] PROGRAM [ARGUMENT] ..
        rrs cover --board [--limit STEPS] [--memory BYTES] [--input polled] [--raw]
            [--dtb FILE] [--append TEXT] [--symbols FILE] [--annotate] [--callgrind FILE]
            [--output FILE] PROGRAM",
@@ -266,15 +266,18 @@ const DEBUG: Subcommand = Subcommand {
     task: Task::Debug,
     command: Command {
         name: "rrs gdb",
-        usage: "rrs gdb [--memory BYTES] [--input FILE] [--raw] PROGRAM [ARGUMENT] ..
+        usage: "rrs gdb [--memory BYTES] [--input FILE] [--env NAME=VALUE] .. [--raw]
+    PROGRAM [ARGUMENT] ..
        rrs gdb --board [--limit STEPS] [--memory BYTES] [--input FILE] [--raw]
            [--dtb FILE] [--append TEXT] PROGRAM",
     },
     summary: "runs a program, or firmware, under gdb",
     help: "Runs PROGRAM as rrs exec does, under gdb, which speaks by standard input and output:
   gdb-multiarch PROGRAM -ex 'target remote | rrs gdb PROGRAM'
-The program's output goes to gdb; its input is FILE, or empty. It can go back, as by
-reverse-stepi and reverse-continue. monitor help, in gdb, lists what can be set.
+The program's output goes to gdb; its input is FILE, or empty, and its clocks stand at
+0. --env puts NAME=VALUE in its environment, as of rrs exec; a raw program has none. It
+can go back, as by reverse-stepi and reverse-continue. monitor help, in gdb, lists what
+can be set.
 
 With --board PROGRAM is firmware, on the board of rrs board. gdb has its CSRs by their
 names, as in info registers mstatus. FILE is what its UART receives. A continue makes at

@@ -61,6 +61,7 @@ setting_word Output = codes "--output"
 setting_word Callgrind = codes "--callgrind"
 setting_word Input = codes "--input"
 setting_word Clock = codes "--clock"
+setting_word Variable = codes "--env"
 setting_word Files = codes "--files"
 setting_word ReadFiles = codes "--files-read-only"
 setting_word Tree = codes "--dtb"
@@ -79,6 +80,10 @@ has_setting task Memory = is_on_board task || is_watched task
 has_setting Execute Clock = true
 has_setting Trace Clock = true
 has_setting Cover Clock = true
+has_setting Execute Variable = true
+has_setting Trace Variable = true
+has_setting Cover Variable = true
+has_setting Debug Variable = true
 has_setting Trace From = true
 has_setting TraceBoard From = true
 has_setting task Output = is_watched task
@@ -97,7 +102,7 @@ has_setting Assemble Data = true
 has_setting Assemble Executable = true
 has_setting _ _ = false
 
--- ---- what they are where no word says it
+-- ---- what they are where no word says it, and the most that there may be
 
 -- A board has 128 MiB, and a process 256 MiB, or more where its program needs more.
 abbrev pub usual_memory : Task → ℕ
@@ -115,3 +120,7 @@ most_unasked = 2 ^ 30
 abbrev pub usual_limit : Task → ℕ
 usual_limit DebugBoard = 10 ^ 9
 usual_limit _ = 2 ^ 64 - 1
+
+-- a program has no more variables than these in its environment
+abbrev pub most_variables : ℕ
+most_variables = 16

@@ -17,16 +17,16 @@
 --       [--append TEXT] [--symbols FILE] [--from ADDRESS|SYMBOL] [--output FILE] PROGRAM
 --   rrs cover --board [--limit STEPS] [--memory BYTES] [--input polled] [--raw] [--dtb FILE]
 --       [--append TEXT] [--symbols FILE] [--annotate] [--callgrind FILE] [--output FILE] PROGRAM
---   rrs gdb [--memory BYTES] [--input FILE] [--raw] PROGRAM [ARGUMENT] ..
+--   rrs gdb [--memory BYTES] [--input FILE] [--env NAME=VALUE] .. [--raw] PROGRAM [ARGUMENT] ..
 --   rrs gdb --board [--limit STEPS] [--memory BYTES] [--input FILE] [--raw] [--dtb FILE]
 --       [--append TEXT] PROGRAM
 --
 -- Options stand in any order, before FILE and after it; but the words after a PROGRAM that has
--- ARGUMENTs are its own.
-use Rattle.std.specs.Prelude.{ℕ, ◌<◌, ◌≤◌, ◌≡◌, ◌⊎◌, List, [], ◌∷◌, Bool, true, false, not, Option, Some, None, IsSome, Result, Ok, Err, map, string_bytes, option_map, codes}
+-- ARGUMENTs are its own. --env may stand 16 times.
+use Rattle.std.specs.Prelude.{ℕ, ◌<◌, ◌≤◌, ◌≡◌, ◌≢◌, ◌⊎◌, List, [], ◌∷◌, ◌++◌, length, take, Bool, true, false, not, Option, Some, None, IsSome, Result, Ok, Err, map, string_bytes, option_map, codes}
 use Rattle.rrs_cli.specs.Limits.{limit_in}
-use Rattle.rrs_run_commands.specs.Words.{IsNumber, IsSize, IsAddress, IsDashed, HasValue, ends_options, name_in, value_in}
-use Rattle.rrs_run_commands.specs.Options.{has_setting, has_switch, most_memory, setting_word, switch_word, usual_limit}
+use Rattle.rrs_run_commands.specs.Words.{IsNumber, IsSize, IsAddress, IsDashed, IsVariable, HasValue, ends_options, name_in, value_in}
+use Rattle.rrs_run_commands.specs.Options.{has_setting, has_switch, most_memory, most_variables, setting_word, switch_word, usual_limit}
 use Rattle.rrs_run_commands.specs.declared.options.Task.{Task}
 use Rattle.rrs_run_commands.specs.declared.options.Task.TheVariants.{Run, Execute, Trace, Cover, Debug, DebugBoard}
 use Rattle.rrs_run_commands.specs.declared.options.Switch.{Switch}
@@ -34,14 +34,15 @@ use Rattle.rrs_run_commands.specs.declared.options.Switch.TheVariants.{Quiet, Ra
 use Rattle.rrs_run_commands.specs.declared.options.Setting.{Setting}
 use Rattle.rrs_run_commands.specs.declared.options.Setting.TheVariants.{Limit, Memory, From, Output, Callgrind, Input, Clock, Files, ReadFiles, Tree, Append, Symbols, Text, Data, Executable}
 use Rattle.rrs_run_commands.specs.declared.refusal.Mistake.{Mistake}
-use Rattle.rrs_run_commands.specs.declared.refusal.Mistake.TheVariants as Mistake
 use Rattle.rrs_run_commands.specs.declared.requests.Form.{Form}
 use Rattle.rrs_run_commands.specs.declared.requests.Request.{Request}
+use Rattle.rrs_run_commands.specs.declared.variables.Variables.{Variables}
 
 -- ---- what is asked for
 
--- What is asked for: the options, the file, how many steps `rrs run` makes, and the words of a
--- program with arguments, which are its path and then these.
+-- What is asked for: the options, the variables of a program's environment in the order in which
+-- they are given, the file, how many steps `rrs run` makes, and the words of a program with
+-- arguments, which are its path and then these.
 pub record Wanted : Type 0 where
   pub quiet : Bool
   pub raw : Bool
@@ -61,6 +62,7 @@ pub record Wanted : Type 0 where
   pub input : Option (List ℕ)
   pub folder : Option (List ℕ)
   pub read_only : Bool
+  pub variables : List (List ℕ)
   pub tree : Option (List ℕ)
   pub append : Option (List ℕ)
   pub symbols : Option (List ℕ)
@@ -89,6 +91,7 @@ unasked task = record {
   input = None;
   folder = None;
   read_only = false;
+  variables = [];
   tree = None;
   append = None;
   symbols = None;
@@ -96,6 +99,10 @@ unasked task = record {
   steps = None;
   program = [];
 }
+
+-- those that are given, in that order
+abbrev pub variables_in : Variables → List (List ℕ)
+variables_in variables = map (λ word. word.now) (take variables.count variables.given)
 
 abbrev pub wanted_of : Request → Wanted
 wanted_of request = record {
@@ -117,6 +124,7 @@ wanted_of request = record {
   input = option_map (λ path. path.now) request.input;
   folder = option_map (λ path. path.now) request.folder;
   read_only = request.is_read_only;
+  variables = variables_in request.variables;
   tree = option_map (λ path. path.now) request.tree;
   append = option_map (λ text. text.now) request.append;
   symbols = option_map (λ path. path.now) request.symbols;
@@ -138,6 +146,7 @@ pub data Fault : Type 0 where
   HasNone : List ℕ → Fault
   Wrong : Setting → List ℕ → Fault
   Large : List ℕ → ℕ → Fault
+  ManyVariables : List ℕ → Fault
   WrongSteps : List ℕ → Fault
 
 abbrev pub fault_of : Mistake → Fault
@@ -148,6 +157,7 @@ fault_of (Mistake.TakesNone word) = TakesNone word.now
 fault_of (Mistake.HasNone word) = HasNone word.now
 fault_of (Mistake.Wrong setting word) = Wrong setting word.now
 fault_of (Mistake.Large word most) = Large word.now most
+fault_of (Mistake.ManyVariables word) = ManyVariables word.now
 fault_of (Mistake.WrongSteps word) = WrongSteps word.now
 
 -- ---- options
@@ -164,7 +174,7 @@ switched Rars old = record old { text_start = Some 0x40_0000; data_start = Some 
 switched Anywhere old = record old { anywhere = true }
 
 -- What an option with this value makes of what is wanted. Of options that say the same the last one
--- counts.
+-- counts; but each variable is one more, after those that are given before it.
 abbrev pub Sets : Task → Setting → List ℕ → Wanted → Wanted → Type 0
 Sets task Limit value old new = (n : ℕ) × IsNumber value n × (new ≡ record old { limit = n })
 Sets task Memory value old new =
@@ -178,6 +188,9 @@ Sets task Input value old new =
     (value ≡ codes "polled") × (new ≡ record old { polled = true })
 Sets task Clock value old new =
     (value ≡ codes "fixed") × (new ≡ record old { clock_fixed = true })
+Sets task Variable value old new =
+    IsVariable value × (length old.variables < most_variables)
+    × (new ≡ record old { variables = old.variables ++ value ∷ [] })
 Sets task Files value old new = new ≡ record old { folder = Some value; read_only = false }
 Sets task ReadFiles value old new = new ≡ record old { folder = Some value; read_only = true }
 Sets task Tree value old new = new ≡ record old { tree = Some value }
@@ -189,31 +202,42 @@ Sets task Data value old new =
     (address : ℕ) × IsAddress value address × (new ≡ record old { data_start = Some address })
 Sets task Executable value old new = new ≡ record old { output = Some value }
 
--- why a value is refused
-abbrev pub RefusesValue : Task → Setting → List ℕ → Fault → Type 0
-RefusesValue task Limit value fault =
-    ((n : ℕ) → IsNumber value n → ⊥) × (fault ≡ Wrong Limit value)
-RefusesValue task Memory value fault =
+-- why bytes of memory are refused
+abbrev pub RefusesMemory : Task → List ℕ → Fault → Type 0
+RefusesMemory task value fault =
     (((n : ℕ) → IsSize value n → ⊥) × (fault ≡ Wrong Memory value))
     ⊎ ((n : ℕ) × IsSize value n × (most_memory task < n)
     × (fault ≡ Large value (most_memory task)))
-RefusesValue task From value fault = ⊥
-RefusesValue task Output value fault = ⊥
-RefusesValue task Callgrind value fault = ⊥
-RefusesValue Debug Input value fault = ⊥
-RefusesValue DebugBoard Input value fault = ⊥
-RefusesValue task Input value fault = (value ≡ codes "polled" → ⊥) × (fault ≡ Wrong Input value)
-RefusesValue task Clock value fault = (value ≡ codes "fixed" → ⊥) × (fault ≡ Wrong Clock value)
-RefusesValue task Files value fault = ⊥
-RefusesValue task ReadFiles value fault = ⊥
-RefusesValue task Tree value fault = ⊥
-RefusesValue task Append value fault = ⊥
-RefusesValue task Symbols value fault = ⊥
-RefusesValue task Text value fault =
+
+-- why a variable is refused, after those that are given before it
+abbrev pub RefusesVariable : List (List ℕ) → List ℕ → Fault → Type 0
+RefusesVariable given value fault =
+    ((IsVariable value → ⊥) × (fault ≡ Wrong Variable value))
+    ⊎ (IsVariable value × (most_variables ≤ length given) × (fault ≡ ManyVariables value))
+
+-- why a value is refused
+abbrev pub RefusesValue : Task → Setting → List ℕ → Wanted → Fault → Type 0
+RefusesValue task Limit value old fault =
+    ((n : ℕ) → IsNumber value n → ⊥) × (fault ≡ Wrong Limit value)
+RefusesValue task Memory value old fault = RefusesMemory task value fault
+RefusesValue task From value old fault = ⊥
+RefusesValue task Output value old fault = ⊥
+RefusesValue task Callgrind value old fault = ⊥
+RefusesValue Debug Input value old fault = ⊥
+RefusesValue DebugBoard Input value old fault = ⊥
+RefusesValue task Input value old fault = (value ≡ codes "polled" → ⊥) × (fault ≡ Wrong Input value)
+RefusesValue task Clock value old fault = (value ≡ codes "fixed" → ⊥) × (fault ≡ Wrong Clock value)
+RefusesValue task Variable value old fault = RefusesVariable old.variables value fault
+RefusesValue task Files value old fault = ⊥
+RefusesValue task ReadFiles value old fault = ⊥
+RefusesValue task Tree value old fault = ⊥
+RefusesValue task Append value old fault = ⊥
+RefusesValue task Symbols value old fault = ⊥
+RefusesValue task Text value old fault =
     ((address : ℕ) → IsAddress value address → ⊥) × (fault ≡ Wrong Text value)
-RefusesValue task Data value fault =
+RefusesValue task Data value old fault =
     ((address : ℕ) → IsAddress value address → ⊥) × (fault ≡ Wrong Data value)
-RefusesValue task Executable value fault = ⊥
+RefusesValue task Executable value old fault = ⊥
 
 -- a word has the name of this option, which the subcommand has
 abbrev pub IsSwitch : Task → List ℕ → Switch → Type 0
@@ -239,8 +263,8 @@ TakesOption task word old words new left =
     × Gives word words value left × Sets task setting value old new)
 
 -- why an option is refused
-abbrev pub RefusesOption : Task → List ℕ → List (List ℕ) → Fault → Type 0
-RefusesOption task word words fault =
+abbrev pub RefusesOption : Task → List ℕ → Wanted → List (List ℕ) → Fault → Type 0
+RefusesOption task word old words fault =
     (((switch : Switch) → IsSwitch task word switch → ⊥)
     × ((setting : Setting) → IsSetting task word setting → ⊥) × (fault ≡ Unknown word))
     ⊎ (((switch : Switch) × IsSwitch task word switch × HasValue word × (fault ≡ TakesNone word))
@@ -248,7 +272,7 @@ RefusesOption task word words fault =
     × (fault ≡ HasNone word))
     ⊎ ((setting : Setting) × (value : List ℕ) × (left : List (List ℕ))
     × IsSetting task word setting × Gives word words value left
-    × RefusesValue task setting value fault)))
+    × RefusesValue task setting value old fault)))
 
 -- ---- other words
 
@@ -309,7 +333,7 @@ Takes task word old words new left =
 -- why a word, or the words after it, are refused
 abbrev pub Refuses : Task → List ℕ → Reading → List (List ℕ) → Fault → Type 0
 Refuses task word old words fault =
-    (IsOption old word × (word ≡ ends_options → ⊥) × RefusesOption task word words fault)
+    (IsOption old word × (word ≡ ends_options → ⊥) × RefusesOption task word old.wanted words fault)
     ⊎ (IsPlain old word × RefusesWord task word old.wanted fault)
 
 -- A program that has arguments ends the words that are read; else they end where there are no more.

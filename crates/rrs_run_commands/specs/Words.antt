@@ -50,3 +50,7 @@ value_in word = after_first (λ byte. byte == 61) word
 
 abbrev pub HasValue : List ℕ → Type 0
 HasValue word = position_or_len (λ byte. byte == 61) word < length word
+
+-- A variable of a program's environment is NAME=VALUE: it has a `=`, and a name before the first.
+abbrev pub IsVariable : List ℕ → Type 0
+IsVariable word = HasValue word × (0 < length (name_in word))

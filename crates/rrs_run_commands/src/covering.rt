@@ -6,6 +6,7 @@ use crate::executables::{memory_for, tell};
 use crate::files::{Noting, STANDARD_ERROR, buffered, created, read_program};
 use crate::refusal::{Refusal, named, no_image, out_of_memory};
 use crate::requests::Request;
+use crate::variables::variables_of;
 use rrs_board::Board;
 use rrs_exec::Progress;
 use rrs_fast::Ending;
@@ -106,6 +107,9 @@ fn cover_code<'a, H: Files + Eprint + AllocGlobal, R: Read, W: Write, E: Write, 
     errors: &mut E,
     progress: &mut P,
 ) -> Result<Ending, Refusal<'a>> {
+    let Ok(variables) = variables_of(rt.alloc(), request) else {
+        return Err(out_of_memory());
+    };
     let output = created(rt, request.output)?;
     let callgrind = created(rt, request.callgrind)?;
     match cover_process(
@@ -113,6 +117,7 @@ fn cover_code<'a, H: Files + Eprint + AllocGlobal, R: Read, W: Write, E: Write, 
         file,
         code,
         request.words,
+        &variables,
         memory_for(file, request.memory),
         request.limit,
         environment,

@@ -7,10 +7,11 @@ ghost use Rattle.rrs_run_commands.specs.Options.{usual_memory, most_unasked};
 
 use crate::files::{read_program, refused_by_host};
 use crate::options::{MOST_UNASKED, Task, usual_memory};
-use crate::refusal::{Refusal, no_image};
+use crate::refusal::{Refusal, no_image, out_of_memory};
 use crate::requests::Request;
+use crate::variables::variables_of;
 use rrs_elf::Executable;
-use rrs_exec::{ProcessEnd, Progress, execute_process, needed_memory};
+use rrs_exec::{ImageError, ProcessEnd, Progress, execute_process, needed_memory};
 use rrs_fast::Ending;
 use rrs_files::{Descriptors, Files as ProgramFiles, HostFolder, execute_below};
 use rrs_lib::instruction_executor::InstructionException;
@@ -41,7 +42,8 @@ pub fn memory_for(file: &[u8], asked: Option<u64>) -> u64
 ///
 /// # Errors
 ///
-/// Those of `read_program`, and `Refusal::File` where it is no executable that can be run.
+/// Those of `read_program`, and `Refusal::File` where it is no executable that can be run, and where
+/// the folder for its files can't be used; out of memory as a failure.
 pub fn execute_executable<
     'a,
     H: Files + Eprint + AllocGlobal,
@@ -56,40 +58,57 @@ pub fn execute_executable<
     progress: &mut P,
 ) -> Result<Ending, Refusal<'a>> {
     let file = read_program(rt, request.path())?;
-    let wanted = memory_for(&file, request.memory);
-    let run = match request.folder {
-        None => execute_process(
-            rt.alloc(),
-            &file,
-            request.words,
-            wanted,
-            request.limit,
-            request.is_strict,
-            environment,
-            progress,
-        ),
-        Some(path) => {
-            let files = files_below(rt, path, request.is_read_only)?;
-            execute_below(
-                rt.alloc(),
-                &file,
-                request.words,
-                wanted,
-                request.limit,
-                request.is_strict,
-                environment,
-                files,
-                progress,
-            )
-        }
-    };
-    match run {
+    match execute_bytes(rt, &file, request, environment, progress)? {
         Ok(end) => {
             tell(rt, "rrs exec", &file, &end);
             Ok(end.ending)
         }
         Err(error) => Err(no_image(request.path(), &file, error)),
     }
+}
+
+/// Runs the bytes of an executable, with the variables and the files that a request gives it.
+///
+/// # Errors
+///
+/// `Refusal::File` where the folder for its files can't be used; out of memory as a failure.
+fn execute_bytes<'a, H: Files + AllocGlobal, R: Read, W: Write, E: Write, P: Progress>(
+    rt: &H,
+    file: &[u8],
+    request: Request<'a>,
+    environment: &mut Linux<R, W, E>,
+    progress: &mut P,
+) -> Result<Result<ProcessEnd, ImageError>, Refusal<'a>> {
+    let wanted = memory_for(file, request.memory);
+    let Ok(variables) = variables_of(rt.alloc(), request) else {
+        return Err(out_of_memory());
+    };
+    let Some(path) = request.folder else {
+        return Ok(execute_process(
+            rt.alloc(),
+            file,
+            request.words,
+            &variables,
+            wanted,
+            request.limit,
+            request.is_strict,
+            environment,
+            progress,
+        ));
+    };
+    let files = files_below(rt, path, request.is_read_only)?;
+    Ok(execute_below(
+        rt.alloc(),
+        file,
+        request.words,
+        &variables,
+        wanted,
+        request.limit,
+        request.is_strict,
+        environment,
+        files,
+        progress,
+    ))
 }
 
 /// The files below a folder, of which none is open.

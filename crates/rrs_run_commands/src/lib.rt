@@ -1,9 +1,9 @@
 //! What all subcommands of `rrs` share, and those that run something or say what an executable has.
 //!
-//! Shared are the words that they are asked with (`words`, `options`, `requests`), the files that
-//! they read and write (`files`), and why they refuse what they are asked (`refusal`). The
-//! subcommands here are runs of files, with and without a line for each instruction, programs that
-//! make system calls of Linux, with a report of the run or none, firmware on a board, and the
+//! Shared are the words that they are asked with (`words`, `options`, `variables`, `requests`), the
+//! files that they read and write (`files`), and why they refuse what they are asked (`refusal`).
+//! The subcommands here are runs of files, with and without a line for each instruction, programs
+//! that make system calls of Linux, with a report of the run or none, firmware on a board, and the
 //! listing and the disassembly of an executable.
 
 #![tactic(auto)]
@@ -22,4 +22,5 @@ pub mod quiet;
 pub mod refusal;
 pub mod requests;
 pub mod tracing;
+pub mod variables;
 pub mod words;

@@ -72,6 +72,8 @@ pub enum Setting {
     Input,
     /// `--clock`, with `fixed`.
     Clock,
+    /// `--env`, with a variable: `NAME=VALUE`.
+    Variable,
     /// `--files`, with a path.
     Files,
     /// `--files-read-only`, with a path.
@@ -107,6 +109,7 @@ pub static WORDS: [&str; 23] = [
     "--callgrind",
     "--input",
     "--clock",
+    "--env",
     "--files",
     "--files-read-only",
     "--dtb",
@@ -148,6 +151,7 @@ fn setting_named(name: &str) -> Option<Setting>
         "--callgrind" => Some(Setting::Callgrind),
         "--input" => Some(Setting::Input),
         "--clock" => Some(Setting::Clock),
+        "--env" => Some(Setting::Variable),
         "--files" => Some(Setting::Files),
         "--files-read-only" => Some(Setting::ReadFiles),
         "--dtb" => Some(Setting::Tree),
@@ -213,6 +217,10 @@ fn has_setting(task: Task, setting: Setting) -> bool
             matches!(task, Task::Execute | Task::Debug) || is_on_board(task) || is_watched(task)
         }
         Setting::Clock => matches!(task, Task::Execute | Task::Trace | Task::Cover),
+        Setting::Variable => matches!(
+            task,
+            Task::Execute | Task::Trace | Task::Cover | Task::Debug
+        ),
         Setting::From => matches!(task, Task::Trace | Task::TraceBoard),
         Setting::Output => is_watched(task),
         Setting::Callgrind => matches!(task, Task::Cover | Task::CoverBoard),

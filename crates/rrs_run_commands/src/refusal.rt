@@ -26,6 +26,8 @@ pub enum Mistake<'a> {
     Wrong(Setting, &'a str),
     /// The value asks for more bytes of memory than there can be, which are so many at most.
     Large(&'a str, u64),
+    /// This variable is one more than a program can have, which are `MOST_VARIABLES`.
+    ManyVariables(&'a str),
     /// The word for the steps of `rrs run` is no limit.
     WrongSteps(&'a str),
 }

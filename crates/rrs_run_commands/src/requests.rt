@@ -1,13 +1,14 @@
 //! What the words after a subcommand ask for.
 
-ghost use Rattle.std.specs.Prelude.{◌≡◌, ◌≤◌, [], MatchOption, IfSome, Ok, Err, IsTrue, ◌↔◌, IfOk, IfErr, length, map, string_bytes};
-ghost use Rattle.rrs_run_commands.specs.Options.{most_memory};
-ghost use Rattle.rrs_run_commands.specs.Words.{HasValue, IsSize};
-ghost use Rattle.rrs_run_commands.specs.Requests.{AsksFor, Gives, IsProgram, IsWhole, Refuses, RefusesOption, RefusesValue, RefusesWord, Sets, Takes, TakesOption, TakesWord, fault_of, has_arguments, reading_of, switched, unasked, unread, wanted_of};
+ghost use Rattle.std.specs.Prelude.{◌≡◌, ◌≤◌, [], ◌<◌, ◌∷◌, ◌++◌, MatchOption, IfSome, Ok, Err, IsTrue, ◌↔◌, IfOk, IfErr, length, map, string_bytes};
+ghost use Rattle.rrs_run_commands.specs.Options.{most_memory, most_variables};
+ghost use Rattle.rrs_run_commands.specs.Words.{HasValue, IsSize, IsVariable};
+ghost use Rattle.rrs_run_commands.specs.Requests.{AsksFor, Gives, IsProgram, IsWhole, Refuses, RefusesMemory, RefusesOption, RefusesValue, RefusesVariable, RefusesWord, Sets, Takes, TakesOption, TakesWord, fault_of, has_arguments, reading_of, switched, unasked, unread, variables_in, wanted_of};
 
 use crate::options::{Setting, Switch, Task, most_memory, setting_of, switch_of, usual_limit};
 use crate::refusal::Mistake;
-use crate::words::{address_of, is_dashed, name_and_value, number_of, size_of};
+use crate::variables::Variables;
+use crate::words::{address_of, is_dashed, is_variable, name_and_value, number_of, size_of};
 use rrs_cli::limits::limit_of;
 
 /// What is printed of a source that is assembled.
@@ -66,6 +67,8 @@ pub struct Request<'a> {
     pub folder: Option<&'a str>,
     /// Whether the program may only read them: `--files-read-only`.
     pub is_read_only: bool,
+    /// The variables of a program's environment: `--env`.
+    pub variables: Variables<'a>,
     /// The path of the device tree that a board hands over: `--dtb`.
     pub tree: Option<&'a str>,
     /// The arguments for the kernel in the board's own device tree: `--append`.
@@ -110,6 +113,7 @@ fn unasked<'a>(task: Task) -> Request<'a>
         input: None,
         folder: None,
         is_read_only: false,
+        variables: Variables::none(),
         tree: None,
         append: None,
         symbols: None,
@@ -222,7 +226,8 @@ fn take_option<'a>(
         (wanted_of taken.0) (map string_bytes taken.1.now)) }
     ensures fewer { IfOk result (λ taken. length taken.1.now ≤ length words.now) }
     ensures refused { IfErr result (λ mistake.
-        RefusesOption task word.now (map string_bytes words.now) (fault_of mistake)) }
+        RefusesOption task word.now (wanted_of request.entry) (map string_bytes words.now)
+        (fault_of mistake)) }
 {
     let (name, value) = name_and_value(word);
     if let Some(switch) = switch_of(task, name) {
@@ -295,7 +300,7 @@ fn set<'a>(
     ensures set { IfOk result (λ new.
         Sets task setting value.now (wanted_of request.entry) (wanted_of new)) }
     ensures refused { IfErr result (λ mistake.
-        RefusesValue task setting value.now (fault_of mistake)) }
+        RefusesValue task setting value.now (wanted_of request.entry) (fault_of mistake)) }
 {
     let mut request = request;
     match setting {
@@ -314,6 +319,7 @@ fn set<'a>(
         },
         Setting::Clock if value == "fixed" => request.has_fixed_clock = true,
         Setting::Clock => return Err(Mistake::Wrong(setting, value)),
+        Setting::Variable => request.variables = with_variable(request.variables, value)?,
         Setting::Files => {
             request.folder = Some(value);
             request.is_read_only = false;
@@ -345,13 +351,35 @@ fn set<'a>(
 fn memory_of(task: Task, value: &str) -> Result<u64, Mistake<'_>>
     ensures size { IfOk result (λ bytes. IsSize value.now bytes × (bytes ≤ most_memory task)) }
     ensures refused { IfErr result (λ mistake.
-        RefusesValue task Setting.Memory value.now (fault_of mistake)) }
+        RefusesMemory task value.now (fault_of mistake)) }
 {
     let most = most_memory(task);
     match size_of(value) {
         Some(bytes) if bytes <= most => Ok(bytes),
         Some(_) => Err(Mistake::Large(value, most)),
         None => Err(Mistake::Wrong(Setting::Memory, value)),
+    }
+}
+
+/// Variables and one more.
+///
+/// # Errors
+///
+/// `Mistake::Wrong` where the value is no variable, and `Mistake::ManyVariables` where there are as
+/// many as there can be.
+fn with_variable<'a>(variables: Variables<'a>, value: &'a str) -> Result<Variables<'a>, Mistake<'a>>
+    ensures more { IfOk result (λ more. IsVariable value.now
+        × (length (variables_in variables.entry) < most_variables)
+        × (variables_in more ≡ variables_in variables.entry ++ value.now ∷ [])) }
+    ensures refused { IfErr result (λ mistake.
+        RefusesVariable (variables_in variables.entry) value.now (fault_of mistake)) }
+{
+    if !is_variable(value) {
+        return Err(Mistake::Wrong(Setting::Variable, value));
+    }
+    match variables.and(value) {
+        Some(more) => Ok(more),
+        None => Err(Mistake::ManyVariables(value)),
     }
 }
 

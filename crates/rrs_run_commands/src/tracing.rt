@@ -5,6 +5,7 @@ use crate::executables::{memory_for, tell};
 use crate::files::{Noting, STANDARD_ERROR, buffered, created, read_program, unwritten};
 use crate::refusal::{Refusal, named, no_executable, no_image};
 use crate::requests::Request;
+use crate::variables::variables_of;
 use crate::words::number_of;
 use rrs_board::Board;
 use rrs_elf::{Executable, Symbols};
@@ -75,11 +76,15 @@ fn trace_to<'a, H: Eprint + AllocGlobal, R: Read, W: Write, E: Write, O: Write, 
     out: &mut O,
     progress: &mut P,
 ) -> Result<Ending, Refusal<'a>> {
+    let Ok(variables) = variables_of(rt.alloc(), request) else {
+        return Err(out_of_memory());
+    };
     let mut out = buffered(rt.alloc(), out)?;
     let run = trace_process(
         rt.alloc(),
         file,
         request.words,
+        &variables,
         memory_for(file, request.memory),
         request.limit,
         environment,

@@ -2,7 +2,7 @@
 
 ghost use Rattle.std.specs.Prelude.{◌≡◌, ◌↔◌, ◌^◌, ◌<◌, ◌≤◌, ℕ, IsTrue, MatchOption, slice_index};
 ghost use Rattle.std.specs.Str.Parse.{IsNumeral, digits_value};
-ghost use Rattle.rrs_run_commands.specs.Words.{HasValue, IsAddress, IsDashed, IsInUnit, IsNumber, IsSize, name_in, value_in};
+ghost use Rattle.rrs_run_commands.specs.Words.{HasValue, IsAddress, IsDashed, IsInUnit, IsNumber, IsSize, IsVariable, name_in, value_in};
 
 /// The number that a word is: decimal digits, or `0x` and hexadecimal ones. `None` where the word
 /// has no digits or others, and where it is 2^64 or more.
@@ -107,4 +107,13 @@ pub fn name_and_value(word: &str) -> (&str, Option<&str>)
         Some((name, value)) => (name, Some(value)),
         None => (word, None),
     }
+}
+
+/// Whether a word is a variable of a program's environment, `NAME=VALUE`: the name before the first
+/// `=` has one byte at least, and the value may have none.
+pub fn is_variable(word: &str) -> bool
+    ensures { IsTrue result ↔ IsVariable word.now }
+{
+    let (name, value) = name_and_value(word);
+    value.is_some() && !name.is_empty()
 }

@@ -203,14 +203,14 @@ const QUIET_USAGE: &str = "usage: rrs run [--quiet] FILE LIMIT\n";
 
 /// How `rrs trace` is called.
 const TRACE_USAGE: &str = "usage: rrs trace [--limit STEPS] [--memory BYTES] [--clock fixed] \
-    [--from ADDRESS|SYMBOL]\n    [--output FILE] PROGRAM [ARGUMENT] ..\n       \
+    [--env NAME=VALUE] ..\n    [--from ADDRESS|SYMBOL] [--output FILE] PROGRAM [ARGUMENT] ..\n       \
     rrs trace --board [--limit STEPS] [--memory BYTES] [--input polled] [--raw]\n           \
     [--dtb FILE] [--append TEXT] [--symbols FILE] [--from ADDRESS|SYMBOL]\n           \
     [--output FILE] PROGRAM\n";
 
 /// How `rrs cover` is called.
 const COVER_USAGE: &str = "usage: rrs cover [--limit STEPS] [--memory BYTES] [--clock fixed] \
-    [--annotate]\n    [--callgrind FILE] [--output FILE] PROGRAM [ARGUMENT] ..\n       \
+    [--env NAME=VALUE] ..\n    [--annotate] [--callgrind FILE] [--output FILE] PROGRAM [ARGUMENT] ..\n       \
     rrs cover --board [--limit STEPS] [--memory BYTES] [--input polled] [--raw]\n           \
     [--dtb FILE] [--append TEXT] [--symbols FILE] [--annotate] [--callgrind FILE]\n           \
     [--output FILE] PROGRAM\n";
@@ -400,6 +400,42 @@ static REFUSED_PROGRAMS: [Refused; 25] = [
         &[b"rrs", b"board", b"process", b"--input", b"file"],
         125,
         "rrs board: --input: file is no value that it takes: polled alone is one\n",
+    ),
+    (
+        Program::Rrs,
+        &[b"rrs", b"exec", b"--env", b"NAME", b"process"],
+        125,
+        "rrs exec: --env: NAME is no variable: NAME=VALUE, with a NAME of one byte at least\n",
+    ),
+    (
+        Program::Rrs,
+        &[b"rrs", b"trace", b"--env==VALUE", b"process"],
+        125,
+        "rrs trace: --env: =VALUE is no variable: NAME=VALUE, with a NAME of one byte at least\n",
+    ),
+    (
+        Program::Rrs,
+        &[b"rrs", b"cover", b"--env", b"A=1", b"--env=", b"process"],
+        125,
+        "rrs cover: --env:  is no variable: NAME=VALUE, with a NAME of one byte at least\n",
+    ),
+    (
+        Program::Rrs,
+        &[b"rrs", b"gdb", b"--env"],
+        2,
+        "rrs gdb: --env takes a value, and none is there\n",
+    ),
+    (
+        Program::Rrs,
+        &[b"rrs", b"run", b"--env", b"A=1", b"program", b"10"],
+        2,
+        "rrs run: no option --env: rrs help run lists them\n",
+    ),
+    (
+        Program::Rrs,
+        &[b"rrs", b"trace", b"--board", b"--env=A=1", b"process"],
+        125,
+        "rrs trace: no option --env: rrs help trace lists them\n",
     ),
     (
         Program::Rrs,
