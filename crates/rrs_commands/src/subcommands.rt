@@ -85,7 +85,8 @@ const EXECUTE: Subcommand = Subcommand {
     command: Command {
         name: "rrs exec",
         usage: "rrs exec [--limit STEPS] [--memory BYTES] [--files FOLDER | --files-read-only FOLDER]
-    [--strict-alignment] [--clock fixed] [--raw] PROGRAM [ARGUMENT] ..",
+    [--strict-alignment] [--clock fixed] [--random host] [--env NAME=VALUE] .. [--raw]
+    PROGRAM [ARGUMENT] ..",
     },
     summary: "runs a program that makes system calls of Linux",
     help: "Runs PROGRAM, an ELF executable for RV32IMA, as a process of Linux with these
@@ -96,10 +97,12 @@ call is one, or any number. The program has standard input, output and error. Wi
 --files it also has the files below FOLDER, which is its root and where it is, and
 with --files-read-only it has them and can't change them. A load or a store at a
 misaligned address is carried out, and with --strict-alignment it is a fault. With
---clock fixed its clocks stand at 0, so that each run is the same. A fault is told
-with its pc. Options stand before PROGRAM: the words after it are the program's own.
-With --raw the file's bytes stand at address 0 of 1 MiB and sp at its end, and there
-are no ARGUMENTs and no files.
+--clock fixed its clocks stand at 0, so that each run is the same. Its random bytes
+are the same in each run, and with --random host they are others. --env, which may
+stand 16 times, puts NAME=VALUE in its environment, which is empty else; of one NAME
+the last counts. A fault is told with its pc. Options stand before PROGRAM: the words
+after it are the program's own. With --raw the file's bytes stand at address 0 of 1 MiB
+and sp at its end, and there are no ARGUMENTs, no environment and no files.
 
 Status: the program's own; 124 at the limit; 125 where it can't be run; 128 and
 the number of a signal for a fault: 132 illegal instruction, 133 breakpoint,

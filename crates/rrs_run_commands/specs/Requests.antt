@@ -2,11 +2,12 @@
 --
 --   rrs run [--quiet] FILE LIMIT
 --   rrs exec [--limit STEPS] [--memory BYTES] [--files FOLDER | --files-read-only FOLDER]
---       [--strict-alignment] [--clock fixed] [--raw] PROGRAM [ARGUMENT] ..
---   rrs trace [--limit STEPS] [--memory BYTES] [--clock fixed] [--from ADDRESS|SYMBOL]
---       [--output FILE] PROGRAM [ARGUMENT] ..
---   rrs cover [--limit STEPS] [--memory BYTES] [--clock fixed] [--annotate] [--callgrind FILE]
---       [--output FILE] PROGRAM [ARGUMENT] ..
+--       [--strict-alignment] [--clock fixed] [--random host] [--env NAME=VALUE] .. [--raw]
+--       PROGRAM [ARGUMENT] ..
+--   rrs trace [--limit STEPS] [--memory BYTES] [--clock fixed] [--env NAME=VALUE] ..
+--       [--from ADDRESS|SYMBOL] [--output FILE] PROGRAM [ARGUMENT] ..
+--   rrs cover [--limit STEPS] [--memory BYTES] [--clock fixed] [--env NAME=VALUE] .. [--annotate]
+--       [--callgrind FILE] [--output FILE] PROGRAM [ARGUMENT] ..
 --   rrs as [--gnu | --list] [-o OUTPUT] [--rars] [-Ttext ADDRESS] [-Tdata ADDRESS]
 --       [--incbin-anywhere] FILE
 --   rrs dis FILE
@@ -32,7 +33,7 @@ use Rattle.rrs_run_commands.specs.declared.options.Task.TheVariants.{Run, Execut
 use Rattle.rrs_run_commands.specs.declared.options.Switch.{Switch}
 use Rattle.rrs_run_commands.specs.declared.options.Switch.TheVariants.{Quiet, Raw, Strict, Annotate, Gnu, Listed, Rars, Anywhere}
 use Rattle.rrs_run_commands.specs.declared.options.Setting.{Setting}
-use Rattle.rrs_run_commands.specs.declared.options.Setting.TheVariants.{Limit, Memory, From, Output, Callgrind, Input, Clock, Files, ReadFiles, Tree, Append, Symbols, Text, Data, Executable}
+use Rattle.rrs_run_commands.specs.declared.options.Setting.TheVariants.{Limit, Memory, From, Output, Callgrind, Input, Clock, Random, Variable, Files, ReadFiles, Tree, Append, Symbols, Text, Data, Executable}
 use Rattle.rrs_run_commands.specs.declared.refusal.Mistake.{Mistake}
 use Rattle.rrs_run_commands.specs.declared.requests.Form.{Form}
 use Rattle.rrs_run_commands.specs.declared.requests.Request.{Request}
@@ -51,6 +52,7 @@ pub record Wanted : Type 0 where
   pub anywhere : Bool
   pub polled : Bool
   pub clock_fixed : Bool
+  pub random_host : Bool
   pub form : Form
   pub limit : ℕ
   pub memory : Option ℕ
@@ -80,6 +82,7 @@ unasked task = record {
   anywhere = false;
   polled = false;
   clock_fixed = false;
+  random_host = false;
   form = Form.Bytes;
   limit = usual_limit task;
   memory = None;
@@ -113,6 +116,7 @@ wanted_of request = record {
   anywhere = request.has_any_file;
   polled = request.is_polled;
   clock_fixed = request.has_fixed_clock;
+  random_host = request.has_host_random;
   form = request.form;
   limit = request.limit;
   memory = request.memory;
@@ -188,6 +192,8 @@ Sets task Input value old new =
     (value ≡ codes "polled") × (new ≡ record old { polled = true })
 Sets task Clock value old new =
     (value ≡ codes "fixed") × (new ≡ record old { clock_fixed = true })
+Sets task Random value old new =
+    (value ≡ codes "host") × (new ≡ record old { random_host = true })
 Sets task Variable value old new =
     IsVariable value × (length old.variables < most_variables)
     × (new ≡ record old { variables = old.variables ++ value ∷ [] })
@@ -227,6 +233,7 @@ RefusesValue Debug Input value old fault = ⊥
 RefusesValue DebugBoard Input value old fault = ⊥
 RefusesValue task Input value old fault = (value ≡ codes "polled" → ⊥) × (fault ≡ Wrong Input value)
 RefusesValue task Clock value old fault = (value ≡ codes "fixed" → ⊥) × (fault ≡ Wrong Clock value)
+RefusesValue task Random value old fault = (value ≡ codes "host" → ⊥) × (fault ≡ Wrong Random value)
 RefusesValue task Variable value old fault = RefusesVariable old.variables value fault
 RefusesValue task Files value old fault = ⊥
 RefusesValue task ReadFiles value old fault = ⊥

@@ -17,6 +17,9 @@ const SOURCE_BYTES: u64 = 1 << 26;
 /// The path by which standard input is opened.
 const INPUT_PATH: &str = "/dev/stdin";
 
+/// The path of the host's random bytes.
+const RANDOM_PATH: &str = "/dev/urandom";
+
 /// The names of the standard streams in messages.
 pub const STANDARD_INPUT: &str = "standard input";
 
@@ -53,6 +56,7 @@ fn fault_of_kind(kind: ErrorKind) -> HostFault {
         ErrorKind::ExecutableFileBusy => HostFault::Busy,
         ErrorKind::InvalidFilename => HostFault::LongName,
         ErrorKind::InvalidInput => HostFault::Invalid,
+        ErrorKind::UnexpectedEof => HostFault::InputOutput,
         ErrorKind::Unsupported => HostFault::Unsupported,
         _ => HostFault::Unknown,
     }
@@ -101,6 +105,38 @@ pub fn read_file<'a, H: Files + AllocGlobal>(
     path: &'a str,
 ) -> Result<Vec<u8>, Refusal<'a>> {
     read_most(rt, path, path, SOURCE_BYTES, FileFault::LargeSource)
+}
+
+/// Eight random bytes of the host, as a number that has the lowest byte first: the seed of the
+/// random bytes of a program. They are those of `/dev/urandom` (urandom(4)).
+///
+/// # Errors
+///
+/// `Refusal::File` where it can't be opened, and where eight bytes can't be read of it.
+pub fn host_seed<'a, H: Files>(rt: &H) -> Result<u64, Refusal<'a>> {
+    let seed = match fs::open(rt, RANDOM_PATH) {
+        Ok(mut file) => seed_in(&mut file),
+        Err(error) => Err(error),
+    };
+    match seed {
+        Ok(seed) => Ok(seed),
+        Err(error) => Err(refused_by_host(RANDOM_PATH, &error)),
+    }
+}
+
+/// The next eight bytes of a reader, as a number that has the lowest byte first.
+///
+/// # Errors
+///
+/// That of the reader, and `ErrorKind::UnexpectedEof` where it has fewer.
+fn seed_in<R: Read>(reader: &mut R) -> io::Result<u64>
+    ensures { IfOk result (λ seed. (bytes : List ℕ) × (length bytes ≡ 8)
+        × Consumes (R.remaining reader.old) (R.remaining reader.new) bytes
+        × (seed ≡ from_le_bytes w64 bytes)) }
+{
+    let mut bytes = [0; 8];
+    reader.read_exact(&mut bytes)?;
+    Ok(u64::from_le_bytes(bytes))
 }
 
 /// The path by which a file is opened.

@@ -72,6 +72,8 @@ pub enum Setting {
     Input,
     /// `--clock`, with `fixed`.
     Clock,
+    /// `--random`, with `host`.
+    Random,
     /// `--env`, with a variable: `NAME=VALUE`.
     Variable,
     /// `--files`, with a path.
@@ -93,7 +95,7 @@ pub enum Setting {
 }
 
 /// The words of all options.
-pub static WORDS: [&str; 23] = [
+pub static WORDS: [&str; 25] = [
     "--quiet",
     "--raw",
     "--strict-alignment",
@@ -109,6 +111,7 @@ pub static WORDS: [&str; 23] = [
     "--callgrind",
     "--input",
     "--clock",
+    "--random",
     "--env",
     "--files",
     "--files-read-only",
@@ -151,6 +154,7 @@ fn setting_named(name: &str) -> Option<Setting>
         "--callgrind" => Some(Setting::Callgrind),
         "--input" => Some(Setting::Input),
         "--clock" => Some(Setting::Clock),
+        "--random" => Some(Setting::Random),
         "--env" => Some(Setting::Variable),
         "--files" => Some(Setting::Files),
         "--files-read-only" => Some(Setting::ReadFiles),
@@ -217,6 +221,7 @@ fn has_setting(task: Task, setting: Setting) -> bool
             matches!(task, Task::Execute | Task::Debug) || is_on_board(task) || is_watched(task)
         }
         Setting::Clock => matches!(task, Task::Execute | Task::Trace | Task::Cover),
+        Setting::Random => matches!(task, Task::Execute),
         Setting::Variable => matches!(
             task,
             Task::Execute | Task::Trace | Task::Cover | Task::Debug

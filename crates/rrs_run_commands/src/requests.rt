@@ -45,6 +45,8 @@ pub struct Request<'a> {
     pub is_polled: bool,
     /// Whether the clocks of a program stand at 0: `--clock fixed`.
     pub has_fixed_clock: bool,
+    /// Whether the random bytes of a program are those of the host: `--random host`.
+    pub has_host_random: bool,
     /// What is printed of a source.
     pub form: Form,
     /// The most steps that are made: `--limit`.
@@ -102,6 +104,7 @@ fn unasked<'a>(task: Task) -> Request<'a>
         has_any_file: false,
         is_polled: false,
         has_fixed_clock: false,
+        has_host_random: false,
         form: Form::Bytes,
         limit: usual_limit(task),
         memory: None,
@@ -319,6 +322,8 @@ fn set<'a>(
         },
         Setting::Clock if value == "fixed" => request.has_fixed_clock = true,
         Setting::Clock => return Err(Mistake::Wrong(setting, value)),
+        Setting::Random if value == "host" => request.has_host_random = true,
+        Setting::Random => return Err(Mistake::Wrong(setting, value)),
         Setting::Variable => request.variables = with_variable(request.variables, value)?,
         Setting::Files => {
             request.folder = Some(value);

@@ -16,6 +16,10 @@ mod programs;
 #[cfg(test)]
 mod progress;
 #[cfg(test)]
+mod requests;
+#[cfg(test)]
+mod starts;
+#[cfg(test)]
 mod writers;
 
 /// lui x2, 0x1234b / lui x3, 0xf387e / add x1, x2, x3, as bytes, lowest first.

@@ -22,12 +22,12 @@ use std::test::Fail;
 
 /// What is left of a program.
 #[derive(Drop)]
-struct Left {
-    status: ExitCode,
+pub struct Left {
+    pub status: ExitCode,
     /// What it said on standard error.
-    said: Vec<u8>,
+    pub said: Vec<u8>,
     /// What it printed.
-    printed: Vec<u8>,
+    pub printed: Vec<u8>,
     /// The report of a run.
     report: Vec<u8>,
 }
@@ -41,7 +41,7 @@ impl Left {
 
 /// A program.
 #[derive(Clone, Copy)]
-enum Program {
+pub enum Program {
     /// `rrs-run`.
     Run,
     /// `rrs`.
@@ -96,7 +96,7 @@ fn status_of(
 }
 
 /// Runs a program on a machine with these words and files, and room for so many bytes of output.
-fn run(
+pub fn run(
     alloc: Global,
     program: Program,
     words: &[&[u8]],
@@ -328,7 +328,7 @@ fn refuses_other_words(rt: HostRuntime) {
 }
 
 /// The same, of what runs executables.
-static REFUSED_PROGRAMS: [Refused; 25] = [
+static REFUSED_PROGRAMS: [Refused; 33] = [
     (
         Program::Rrs,
         &[b"rrs", b"exec", b"--limit", b"10", b"--raw", b"program"],
@@ -436,6 +436,18 @@ static REFUSED_PROGRAMS: [Refused; 25] = [
         &[b"rrs", b"trace", b"--board", b"--env=A=1", b"process"],
         125,
         "rrs trace: no option --env: rrs help trace lists them\n",
+    ),
+    (
+        Program::Rrs,
+        &[b"rrs", b"exec", b"--random", b"other", b"process"],
+        125,
+        "rrs exec: --random: other is no value that it takes: host alone is one\n",
+    ),
+    (
+        Program::Rrs,
+        &[b"rrs", b"cover", b"--random", b"host", b"process"],
+        125,
+        "rrs cover: no option --random: rrs help cover lists them\n",
     ),
     (
         Program::Rrs,
