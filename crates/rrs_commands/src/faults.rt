@@ -34,6 +34,8 @@ impl fmt::Display for ToldFault {
                 f.write_str("the program has more than 64 MiB from its first byte to its last")
             }
             FileFault::IsSource => f.write_str("this is the source, which stays as it is"),
+            FileFault::IsRead => f.write_str("it is read, and stays as it is"),
+            FileFault::IsWrittenTwice => f.write_str("two options write it"),
         }
     }
 }

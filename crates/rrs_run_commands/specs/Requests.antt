@@ -137,6 +137,19 @@ wanted_of request = record {
   program = map string_bytes request.words.now;
 }
 
+-- ---- files that are written
+
+-- a file that is written, if one is, is neither the program nor the executable with its symbols
+abbrev pub IsUnread : Wanted → Option (List ℕ) → Type 0
+IsUnread wanted written =
+    (path : List ℕ) → written ≡ Some path → (wanted.file ≢ Some path) × (wanted.symbols ≢ Some path)
+
+-- that holds of each, and no file is written for two options
+pub record WritesApart (wanted : Wanted) : Type 0 where
+  pub output_apart : IsUnread wanted wanted.output
+  pub callgrind_apart : IsUnread wanted wanted.callgrind
+  pub not_twice : (path : List ℕ) → wanted.output ≡ Some path → wanted.callgrind ≢ Some path
+
 -- ---- why words are refused
 
 -- Words ask for nothing that can be done: one is missing; there is one too many; there is no such

@@ -82,9 +82,10 @@ fn write_reports<'a, F: Write + Drop, E: Write>(
 ///
 /// # Errors
 ///
-/// Those of `read_program`; `Refusal::File` where a file can't be created, where it is no
-/// executable that can be run, and where it has a symbol table that can't be read. No step is made
-/// then. The same where a write fails, which is after the run; out of memory as a failure.
+/// Those of `read_program` and `check_written`; `Refusal::File` where a file can't be created,
+/// where it is no executable that can be run, and where it has a symbol table that can't be read.
+/// No step is made then. The same where a write fails, which is after the run; out of memory as a
+/// failure.
 pub fn cover<'a, H: Files + Eprint + AllocGlobal, R: Read, W: Write, E: Write, P: Progress>(
     rt: &H,
     request: Request<'a>,
@@ -92,6 +93,7 @@ pub fn cover<'a, H: Files + Eprint + AllocGlobal, R: Read, W: Write, E: Write, P
     errors: &mut E,
     progress: &mut P,
 ) -> Result<Ending, Refusal<'a>> {
+    check_written(request)?;
     let file = read_program(rt, request.path())?;
     let code = code_of(rt.alloc(), request.path(), &file)?;
     cover_code(rt, request, &file, &code, environment, errors, progress)
@@ -145,6 +147,7 @@ pub fn cover_firmware<'a, H: Files + Eprint + AllocGlobal, R: Read, W: Write, E:
     output: &mut W,
     errors: &mut E,
 ) -> Result<Ending, Refusal<'a>> {
+    check_written(request)?;
     let file = read_program(rt, request.path())?;
     let board = board_with(rt, request, &file)?;
     match request.symbols {

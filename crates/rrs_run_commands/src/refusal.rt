@@ -117,6 +117,10 @@ pub enum FileFault {
     LargeImage,
     /// The file that is to be written is the source.
     IsSource,
+    /// The file that is to be written is one that is read.
+    IsRead,
+    /// The file is to be written for two options.
+    IsWrittenTwice,
 }
 
 /// Why a subcommand did not do what it was asked.

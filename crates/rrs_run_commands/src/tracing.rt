@@ -110,10 +110,10 @@ fn trace_to<'a, H: Eprint + AllocGlobal, R: Read, W: Write, E: Write, O: Write, 
 ///
 /// # Errors
 ///
-/// Those of `read_program`; `Refusal::NoAddress` where the word after `--from` is no address and
-/// no symbol; `Refusal::File` where the file for the log can't be created, and where it is no
-/// executable that can be run. No step is made then. The same where a write of the log fails, which
-/// ends the run; out of memory as a failure.
+/// Those of `read_program` and `check_written`; `Refusal::NoAddress` where the word after `--from`
+/// is no address and no symbol; `Refusal::File` where the file for the log can't be created, and
+/// where it is no executable that can be run. No step is made then. The same where a write of the
+/// log fails, which ends the run; out of memory as a failure.
 pub fn trace<'a, H: Files + Eprint + AllocGlobal, R: Read, W: Write, E: Write, P: Progress>(
     rt: &H,
     request: Request<'a>,
@@ -121,6 +121,7 @@ pub fn trace<'a, H: Files + Eprint + AllocGlobal, R: Read, W: Write, E: Write, P
     errors: &mut E,
     progress: &mut P,
 ) -> Result<Ending, Refusal<'a>> {
+    check_written(request)?;
     let file = read_program(rt, request.path())?;
     let from = start_of(request.path(), &file, request)?;
     match created(rt, request.output)? {
@@ -179,6 +180,7 @@ pub fn trace_firmware<'a, H: Files + Eprint + AllocGlobal, R: Read, W: Write, E:
     output: &mut W,
     errors: &mut E,
 ) -> Result<Ending, Refusal<'a>> {
+    check_written(request)?;
     let file = read_program(rt, request.path())?;
     let from = match request.symbols {
         Some(path) => start_of(path, &read_program(rt, path)?, request)?,
