@@ -16,7 +16,29 @@ impl fmt::Display for ToldFault {
             FileFault::LargeProgram => f.write_str("a program has at most 256 MiB"),
             FileFault::Image(error, advice) => {
                 ToldImageError(*error).fmt(f)?;
-                ToldAdvice(*advice).fmt(f)
+                ToldAdvice(*advice, COMPILE).fmt(f)
+            }
+            FileFault::Firmware(error, advice) => {
+                error.fmt(f)?;
+                ToldAdvice(*advice, COMPILE_FIRMWARE).fmt(f)
+            }
+            FileFault::OutsideRam(address, bytes) => {
+                write!(f, "cannot load at address 0x{address:08x}: ")?;
+                write!(f, "RAM has {bytes} bytes from 0x80000000 on")
+            }
+            FileFault::NoTreeRoom => {
+                f.write_str("no room behind it for a device tree of 64 KiB: --memory gives it more")
+            }
+            FileFault::LongTree => f.write_str("a device tree has at most 64 KiB"),
+            FileFault::LongArguments => {
+                f.write_str("--append makes the device tree longer than 64 KiB")
+            }
+            FileFault::HasArguments => {
+                f.write_str("--append is for the board's own device tree, and this is another")
+            }
+            FileFault::IsNoImage => f.write_str("an ELF file: without --raw it is loaded"),
+            FileFault::HasNoSymbols => {
+                f.write_str("a raw image has no symbols: --symbols names an executable with them")
             }
             FileFault::IsElf => f.write_str("an ELF file: rrs exec runs it"),
             FileFault::TooLong(address) => {
@@ -103,15 +125,16 @@ static MACHINES: [(u16, &str); 11] = [
     (258, "LoongArch"),
 ];
 
-/// What a file is, or what is to be done about it, after the refusal.
+/// What a file is, or what is to be done about it, after the refusal, and how a program for this
+/// machine is compiled.
 #[derive(Clone, Copy)]
-struct ToldAdvice(Advice);
+struct ToldAdvice(Advice, &'static str);
 
 impl fmt::Display for ToldAdvice {
     fn fmt<W: fmt::Write>(&self, f: &mut fmt::Formatter<W>) -> fmt::Result {
         match self.0 {
             Advice::Nothing => Ok(()),
-            Advice::Compile => f.write_str(COMPILE),
+            Advice::Compile => f.write_str(self.1),
             Advice::Link => f.write_str(": link it"),
             Advice::LinkFixed => f.write_str(": link it with -static -no-pie"),
             Advice::Machine(machine) => {
@@ -120,7 +143,7 @@ impl fmt::Display for ToldAdvice {
                         write!(f, ": a program for {name}")?;
                     }
                 }
-                f.write_str(COMPILE)
+                f.write_str(self.1)
             }
         }
     }
@@ -128,3 +151,6 @@ impl fmt::Display for ToldAdvice {
 
 /// How a program is compiled for this machine.
 const COMPILE: &str = ": compile it with -march=rv32im -mabi=ilp32";
+
+/// How firmware is compiled for it.
+const COMPILE_FIRMWARE: &str = ": compile it with -march=rv32ima_zicsr -mabi=ilp32";

@@ -2,14 +2,13 @@
 
 use crate::files::{Noting, STANDARD_INPUT, STANDARD_OUTPUT, buffered, read_program};
 use crate::options::{Task, most_memory, usual_memory};
-use crate::refusal::{FileFault, HostFault, Refusal, no_image, out_of_memory};
+use crate::refusal::{FileFault, HostFault, Refusal, no_firmware, out_of_memory};
 use crate::requests::Request;
 use rrs_board::memory::RAM_START;
 use rrs_board::{
     Board, BoardEnd, BoardError, BoardEvent, PlainRuns, Profile, TerminalError, device_tree,
     run_at_terminal,
 };
-use rrs_exec::ImageError;
 use rrs_fast::Ending;
 use std::io::{Read, Write};
 use std::rt::Files;
@@ -17,14 +16,13 @@ use std::rt::Files;
 /// The status where a `wfi` waits and nothing can wake it.
 const NOTHING_WAKES: u32 = 126;
 
-/// The refusal of firmware.
-fn refused<'a>(path: &'a str, file: &[u8], error: BoardError) -> Refusal<'a> {
-    let error = match error {
-        BoardError::Elf(error) => ImageError::Elf(error),
-        BoardError::Refused(address) => ImageError::Refused(address),
-        BoardError::OutOfMemory => ImageError::OutOfMemory,
-    };
-    no_image(path, file, error)
+/// The refusal of firmware for a board with so many bytes of RAM.
+fn refused<'a>(path: &'a str, file: &[u8], error: BoardError, bytes: u64) -> Refusal<'a> {
+    match error {
+        BoardError::Elf(error) => no_firmware(path, file, error),
+        BoardError::Refused(address) => Refusal::File(path, FileFault::OutsideRam(address, bytes)),
+        BoardError::OutOfMemory => out_of_memory(),
+    }
 }
 
 /// What the hart of the board has beside RV32IM and machine mode.
@@ -44,53 +42,57 @@ const USUAL_ARGUMENTS: &str = "earlycon=uart8250,mmio,0x10000000 console=ttyS0";
 ///
 /// # Errors
 ///
-/// Those of `read_program`; out of memory as a failure.
+/// Those of `read_program`; `Refusal::File` where a file and arguments are asked for, or the tree
+/// has more than 64 KiB; out of memory as a failure.
 fn tree_of<'a, H: Files + AllocGlobal>(
     rt: &H,
     request: Request<'a>,
     bytes: u64,
 ) -> Result<Option<Vec<u8>>, Refusal<'a>> {
     if let Some(path) = request.tree {
-        return Ok(Some(read_program(rt, path)?));
+        if request.append.is_some() {
+            return Err(Refusal::File(path, FileFault::HasArguments));
+        }
+        let tree = read_program(rt, path)?;
+        if tree.len() as u64 > TREE_ROOM {
+            return Err(Refusal::File(path, FileFault::LongTree));
+        }
+        return Ok(Some(tree));
     }
     if !request.is_raw && request.append.is_none() {
         return Ok(None);
     }
     let arguments = request.append.unwrap_or(USUAL_ARGUMENTS);
     match device_tree(rt.alloc(), bytes.min(1 << 31) as u32, arguments) {
+        Ok(tree) if tree.len() as u64 > TREE_ROOM => {
+            Err(Refusal::File(request.path(), FileFault::LongArguments))
+        }
         Ok(tree) => Ok(Some(tree)),
         Err(_) => Err(out_of_memory()),
     }
 }
 
-/// Hands over a device tree at the end of RAM of so many bytes, if there is one.
-///
-/// # Errors
-///
-/// `BoardError::Refused` where the tree, or the image before it, is too long for that.
-fn hand_tree(
-    board: &mut Board,
-    tree: Option<Vec<u8>>,
-    image: usize,
-    bytes: u64,
-) -> Result<(), BoardError> {
+/// Hands over a device tree at the end of RAM of so many bytes, if there is one, after an image of
+/// so many. The answer is whether there is room for both.
+fn hand_tree(board: &mut Board, tree: Option<Vec<u8>>, image: usize, bytes: u64) -> bool {
     let Some(tree) = tree else {
-        return Ok(());
+        return true;
     };
     if bytes < TREE_ROOM || image as u64 > bytes - TREE_ROOM {
-        return Err(BoardError::Refused(RAM_START));
+        return false;
     }
     let place = (bytes - TREE_ROOM).min(u64::from(u32::MAX - RAM_START)) as u32;
-    board.hand_over(&tree, RAM_START + place)
+    board.hand_over(&tree, RAM_START + place).is_ok()
 }
 
 /// A board at reset, with firmware in its RAM of so many bytes, or of the usual 128 MiB: an
-/// executable, or a raw image. Its hart has extension A and user mode.
+/// executable, or a raw image. Of the bytes a multiple of 8 is there. Its hart has extension A and
+/// user mode.
 ///
 /// # Errors
 ///
-/// Those of `read_program`, and `Refusal::File` where it is no executable for this board, or does
-/// not fit in RAM with its device tree.
+/// Those of `read_program` and `tree_of`, and `Refusal::File` where it is no executable for this
+/// board, is an executable and no raw image, or does not fit in RAM with its device tree.
 pub fn board_of<'a, H: Files + AllocGlobal>(
     rt: &H,
     request: Request<'a>,
@@ -109,8 +111,11 @@ pub(crate) fn board_with<'a, H: Files + AllocGlobal>(
     request: Request<'a>,
     file: &[u8],
 ) -> Result<Board, Refusal<'a>> {
+    if request.is_raw && file.starts_with(b"\x7fELF") {
+        return Err(Refusal::File(request.path(), FileFault::IsNoImage));
+    }
     let bytes = request.memory.unwrap_or(usual_memory(Task::Board));
-    let bytes = bytes.min(most_memory(Task::Board));
+    let bytes = bytes.min(most_memory(Task::Board)) / 8 * 8;
     let tree = tree_of(rt, request, bytes)?;
     let words = (bytes / 4) as usize;
     let (loaded, image) = if request.is_raw {
@@ -120,12 +125,13 @@ pub(crate) fn board_with<'a, H: Files + AllocGlobal>(
     };
     let mut board = match loaded {
         Ok(board) => board,
-        Err(error) => return Err(refused(request.path(), file, error)),
+        Err(error) => return Err(refused(request.path(), file, error, bytes)),
     };
     board.set_profile(PROFILE);
-    match hand_tree(&mut board, tree, image, bytes) {
-        Ok(()) => Ok(board),
-        Err(error) => Err(refused(request.path(), file, error)),
+    if hand_tree(&mut board, tree, image, bytes) {
+        Ok(board)
+    } else {
+        Err(Refusal::File(request.path(), FileFault::NoTreeRoom))
     }
 }
 

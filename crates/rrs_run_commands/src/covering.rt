@@ -3,8 +3,8 @@
 use crate::boards::{board_with, ending_of, stopped};
 use crate::disassembling::{code_of, flushed};
 use crate::executables::{memory_for, tell};
-use crate::files::{Noting, STANDARD_ERROR, buffered, created, read_program};
-use crate::refusal::{Refusal, named, no_image, out_of_memory};
+use crate::files::{Noting, STANDARD_ERROR, buffered, check_written, created, read_program};
+use crate::refusal::{FileFault, Refusal, named, no_image, out_of_memory};
 use crate::requests::Request;
 use crate::variables::variables_of;
 use rrs_board::Board;
@@ -156,6 +156,7 @@ pub fn cover_firmware<'a, H: Files + Eprint + AllocGlobal, R: Read, W: Write, E:
             let code = code_of(rt.alloc(), path, &names)?;
             cover_loaded(rt, board, request, &code, input, output, errors)
         }
+        None if request.is_raw => Err(Refusal::File(request.path(), FileFault::HasNoSymbols)),
         None => {
             let code = code_of(rt.alloc(), request.path(), &file)?;
             cover_loaded(rt, board, request, &code, input, output, errors)

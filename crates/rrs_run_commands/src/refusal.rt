@@ -101,8 +101,24 @@ pub enum FileFault {
     LargeSource,
     /// The program has more bytes than are read.
     LargeProgram,
-    /// It can't be made a process, or the firmware of a board, and what is to be done then.
+    /// It can't be made a process, and what is to be done then.
     Image(ImageError, Advice),
+    /// It can't be made the firmware of a board, and what is to be done then.
+    Firmware(ElfError, Advice),
+    /// A byte of it, at this address, is outside of the RAM of a board, which has so many bytes.
+    OutsideRam(u32, u64),
+    /// It leaves no room in RAM for a device tree.
+    NoTreeRoom,
+    /// It is a device tree of more bytes than there is room for.
+    LongTree,
+    /// With the arguments for a kernel the board's device tree has more bytes than there is room for.
+    LongArguments,
+    /// It is a device tree, and the arguments for a kernel are for the board's own.
+    HasArguments,
+    /// It is an ELF file, and no raw image.
+    IsNoImage,
+    /// It is a raw image, which has no symbols.
+    HasNoSymbols,
     /// It is an ELF file, and its bytes are not to be run as they stand.
     IsElf,
     /// Its bytes are more than the memory has, which ends at this address.
@@ -199,6 +215,12 @@ fn advice_of(file: &[u8], error: ImageError) -> Advice
 /// The refusal of a file that is no executable.
 pub fn no_executable<'a>(path: &'a str, file: &[u8], error: ElfError) -> Refusal<'a> {
     no_image(path, file, ImageError::Elf(error))
+}
+
+/// The refusal of a file that can't be made the firmware of a board.
+pub fn no_firmware<'a>(path: &'a str, file: &[u8], error: ElfError) -> Refusal<'a> {
+    let advice = advice_of(file, ImageError::Elf(error));
+    Refusal::File(path, FileFault::Firmware(error, advice))
 }
 
 /// The refusal of a file that can't be made a process.

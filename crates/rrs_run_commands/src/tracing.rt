@@ -2,8 +2,10 @@
 
 use crate::boards::{board_with, ending_of, stopped};
 use crate::executables::{memory_for, tell};
-use crate::files::{Noting, STANDARD_ERROR, buffered, created, read_program, unwritten};
-use crate::refusal::{Refusal, named, no_executable, no_image};
+use crate::files::{
+    Noting, STANDARD_ERROR, buffered, check_written, created, read_program, unwritten,
+};
+use crate::refusal::{FileFault, Refusal, named, no_executable, no_image, out_of_memory};
 use crate::requests::Request;
 use crate::variables::variables_of;
 use crate::words::number_of;
@@ -18,6 +20,9 @@ use std::rt::Files;
 
 /// The value of the first symbol of a name, if there is one in a section.
 fn value_of(symbols: &Symbols<'_>, name: &[u8]) -> Option<u32> {
+    if name.is_empty() {
+        return None;
+    }
     let most = name.len().saturating_add(1);
     for index in 0..symbols.count() {
         let other = symbols.name_up_to(index, most);
@@ -63,6 +68,14 @@ fn start_of<'a>(
     match value_of(&symbols, word.as_bytes()) {
         Some(address) => Ok(Some(address)),
         None => Err(Refusal::NoAddress(word)),
+    }
+}
+
+/// Whether the word for the address from which on lines are written is none.
+fn names_symbol(request: Request<'_>) -> bool {
+    match request.from {
+        Some(word) => number_of(word).is_none(),
+        None => false,
     }
 }
 
@@ -184,6 +197,9 @@ pub fn trace_firmware<'a, H: Files + Eprint + AllocGlobal, R: Read, W: Write, E:
     let file = read_program(rt, request.path())?;
     let from = match request.symbols {
         Some(path) => start_of(path, &read_program(rt, path)?, request)?,
+        None if request.is_raw && names_symbol(request) => {
+            return Err(Refusal::File(request.path(), FileFault::HasNoSymbols));
+        }
         None => start_of(request.path(), &file, request)?,
     };
     let board = board_with(rt, request, &file)?;
