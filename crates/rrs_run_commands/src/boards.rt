@@ -1,6 +1,6 @@
 //! `rrs board`: firmware on a board with a hart of machine mode.
 
-use crate::files::{Noting, STANDARD_INPUT, STANDARD_OUTPUT, buffered, read_program};
+use crate::files::{Noting, STANDARD_INPUT, STANDARD_OUTPUT, read_program};
 use crate::options::{Task, most_memory, usual_memory};
 use crate::refusal::{FileFault, HostFault, Refusal, no_firmware, out_of_memory};
 use crate::requests::Request;
@@ -168,13 +168,12 @@ pub(crate) fn stopped<'a>(
     }
 }
 
-/// Runs firmware as a request says: what its UART transmits goes to `output`, and what it receives
-/// comes from `input`.
+/// Runs firmware as a request says: what its UART transmits goes to `output`, each byte at once,
+/// and what it receives comes from `input`.
 ///
 /// # Errors
 ///
-/// Those of `board_of`; `Refusal::File` for a stream of which a read or a write fails; out of
-/// memory as a failure.
+/// Those of `board_of`; `Refusal::File` for a stream of which a read or a write fails.
 pub fn run_board<'a, H: Files + Eprint + AllocGlobal, R: Read, W: Write>(
     rt: &H,
     request: Request<'a>,
@@ -183,18 +182,15 @@ pub fn run_board<'a, H: Files + Eprint + AllocGlobal, R: Read, W: Write>(
 ) -> Result<Ending, Refusal<'a>> {
     let mut board = board_of(rt, request)?;
     let (mut input, mut output) = (Noting::new(input), Noting::new(output));
-    let run = {
-        let mut out = buffered(rt.alloc(), &mut output)?;
-        let (limit, is_polled) = (request.limit, request.is_polled);
-        run_at_terminal(
-            &mut PlainRuns,
-            &mut board,
-            limit,
-            is_polled,
-            &mut input,
-            &mut out,
-        )
-    };
+    let (limit, is_polled) = (request.limit, request.is_polled);
+    let run = run_at_terminal(
+        &mut PlainRuns,
+        &mut board,
+        limit,
+        is_polled,
+        &mut input,
+        &mut output,
+    );
     match run {
         Ok(end) => Ok(ending_of(rt, "rrs board", &board, end)),
         Err(error) => Err(stopped(error, input.fault, output.fault)),

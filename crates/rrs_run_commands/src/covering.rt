@@ -177,19 +177,16 @@ fn cover_loaded<'a, H: Files + Eprint + AllocGlobal, R: Read, W: Write, E: Write
     let report = created(rt, request.output)?;
     let callgrind = created(rt, request.callgrind)?;
     let (mut input, mut output) = (Noting::new(input), Noting::new(output));
-    let run = {
-        let mut out = buffered(rt.alloc(), &mut output)?;
-        let (limit, is_polled) = (request.limit, request.is_polled);
-        cover_board(
-            rt.alloc(),
-            &mut board,
-            code,
-            limit,
-            is_polled,
-            &mut input,
-            &mut out,
-        )
-    };
+    let (limit, is_polled) = (request.limit, request.is_polled);
+    let run = cover_board(
+        rt.alloc(),
+        &mut board,
+        code,
+        limit,
+        is_polled,
+        &mut input,
+        &mut output,
+    );
     match run {
         Ok((end, profile)) => {
             write_reports(rt.alloc(), request, &profile, report, callgrind, errors)?;

@@ -162,13 +162,16 @@ fn trace_loaded<'a, H: Eprint + AllocGlobal, R: Read, W: Write, O: Write>(
 ) -> Result<Ending, Refusal<'a>> {
     let (mut input, mut output) = (Noting::new(input), Noting::new(output));
     let mut log = buffered(rt.alloc(), log)?;
-    let run = {
-        let mut out = buffered(rt.alloc(), &mut output)?;
-        let (limit, is_polled) = (request.limit, request.is_polled);
-        trace_board(
-            &mut board, limit, is_polled, &mut input, &mut out, from, &mut log,
-        )
-    };
+    let (limit, is_polled) = (request.limit, request.is_polled);
+    let run = trace_board(
+        &mut board,
+        limit,
+        is_polled,
+        &mut input,
+        &mut output,
+        from,
+        &mut log,
+    );
     let flushed = log.flush();
     match run {
         Err(BoardTraceError::Terminal(error)) => Err(stopped(error, input.fault, output.fault)),
