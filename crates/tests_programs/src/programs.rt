@@ -198,6 +198,11 @@ const RUN_USAGE: &str = "usage: rrs-run FILE LIMIT\n";
 /// How `rrs` is called.
 const RRS_USAGE: &str = "usage: rrs run|exec|trace|cover|as|dis|elf|board|gdb|help ..\n";
 
+/// What it says of a word that is not UTF-8.
+const NOT_TEXT: &str = "rrs: a word of the command line is not UTF-8
+usage: rrs run|exec|trace|cover|as|dis|elf|board|gdb|help ..
+";
+
 /// How `rrs run` is called.
 const QUIET_USAGE: &str = "usage: rrs run [--quiet] FILE LIMIT\n";
 
@@ -265,13 +270,13 @@ usage: rrs run|exec|trace|cover|as|dis|elf|board|gdb|help ..
         Program::Rrs,
         &[b"rrs", b"run", b"program", b"\xff"],
         2,
-        RRS_USAGE,
+        NOT_TEXT,
     ),
     (
         Program::Rrs,
         &[b"\xff", b"run", b"program", b"10"],
         2,
-        RRS_USAGE,
+        NOT_TEXT,
     ),
     (Program::Rrs, &[b"rrs", b"run"], 2, QUIET_USAGE),
     (Program::Rrs, &[b"rrs", b"run", b"program"], 2, QUIET_USAGE),
