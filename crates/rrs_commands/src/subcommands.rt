@@ -241,7 +241,7 @@ const BOARD: Subcommand = Subcommand {
     [--append TEXT] PROGRAM",
     },
     summary: "runs firmware on a board with machine mode",
-    help: "Runs PROGRAM, an ELF executable for RV32IM, on a board like QEMU's virt: RAM of
+    help: "Runs PROGRAM, an ELF executable for RV32IMA, on a board like QEMU's virt: RAM of
 128 MiB (--memory, up to 2G) from 0x80000000 on, a UART 16550 at 0x10000000, whose two
 sides are standard output and standard input, a CLINT at 0x2000000, a finisher at
 0x100000. The hart has machine and user mode, and starts at the entry. It makes at
@@ -309,7 +309,8 @@ digits, or 0x and hexadecimal ones. BYTES is such a number too, or one with K, M
 after it, of KiB, MiB or GiB. A FILE or PROGRAM that is read may be -, standard input.
 
 The status is 0, 1 where something fails, 2 for other words, and 141 where nobody reads
-what rrs prints; rrs exec, rrs trace and rrs cover end with that of their program.
+what rrs prints; rrs exec, trace, cover and board end with that of their program, and
+with 125 where they can't run it.
 ",
 };
 
