@@ -139,6 +139,26 @@ uint32_t rrs_csr_write(rrs_csrs *csrs, uint32_t number, uint32_t value) {
     return 0;
 }
 
+void rrs_board_reset(rrs_board *board, uint32_t profile, uint32_t pc) {
+    (void)board, (void)profile, (void)pc;
+}
+
+rrs_board_end rrs_board_run(rrs_board *board, uint32_t *words, size_t count, uint64_t limit) {
+    rrs_board_end end = {0, KIND, 0};
+    (void)board, (void)words, (void)count, (void)limit;
+    return end;
+}
+
+uint32_t rrs_board_receive(rrs_board *board, uint32_t byte) {
+    (void)board, (void)byte;
+    return 0;
+}
+
+uint32_t rrs_board_waits_for_input(const rrs_board *board) {
+    (void)board;
+    return 0;
+}
+
 rrs_elf rrs_elf_parse(const uint8_t *file, size_t size) {
     rrs_elf none = {RRS_ELF_NOT_ELF, 0, 0, 0, 0};
     (void)file, (void)size;

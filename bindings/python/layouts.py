@@ -18,6 +18,9 @@ STRUCTS = {
     "rrs_outcome": rrs._Outcome,
     "rrs_machine_retired": rrs._MachineRetired,
     "rrs_csr": rrs._Csr,
+    "rrs_uart": rrs._Uart,
+    "rrs_board": rrs._Board,
+    "rrs_board_end": rrs._BoardEnd,
     "rrs_elf": rrs._Elf,
     "rrs_segment": rrs._Segment,
     "rrs_loaded": rrs._Loaded,
@@ -49,6 +52,8 @@ for kind in rrs.AccessKind:
     print(f"RRS_{kind.name} {kind.value}")
 for kind in rrs.OutcomeKind:
     print(f"RRS_{kind.name} {kind.value}")
+for event in rrs.BoardEvent:
+    print(f"RRS_BOARD_{event.name} {event.value}")
 print("RRS_ELF_OK 0")
 for refusal in rrs._ElfRefusal:
     print(f"RRS_ELF_{refusal.name} {refusal.value}")

@@ -31,6 +31,9 @@ from typing import NamedTuple, Optional, Tuple, Union, overload
 
 __all__ = [
     "Machine",
+    "Board",
+    "BoardEnd",
+    "BoardEvent",
     "Fault",
     "FaultKind",
     "End",
@@ -140,6 +143,27 @@ class _Csr(ctypes.Structure):
     _fields_ = [("found", _u32), ("value", _u32)]
 
 
+class _Uart(ctypes.Structure):
+    _fields_ = [
+        (name, _u32)
+        for name in (
+            "holds received interrupt_enable has_fifos line_control modem_control scratch "
+            "divisor_low divisor_high is_emptied"
+        ).split()
+    ]
+
+
+class _Board(ctypes.Structure):
+    _fields_ = [
+        *(("hart", _Hart), ("csrs", _Csrs), ("alarm", _u64), ("time", _u64)),
+        *(("software", _u32), ("uart", _Uart)),
+    ]
+
+
+class _BoardEnd(ctypes.Structure):
+    _fields_ = [("steps", _u64), ("event", _u32), ("value", _u32)]
+
+
 class _Elf(ctypes.Structure):
     _fields_ = [(name, _u32) for name in "refusal number other entry segments".split()]
 
@@ -247,6 +271,10 @@ _machine_step = _function(
 )
 _csr_read = _function("rrs_csr_read", _Csr, ctypes.POINTER(_Csrs), _u32, _u32, _u64)
 _csr_write = _function("rrs_csr_write", _u32, ctypes.POINTER(_Csrs), _u32, _u32)
+_board_reset = _function("rrs_board_reset", None, ctypes.POINTER(_Board), _u32, _u32)
+_board_run = _function("rrs_board_run", _BoardEnd, ctypes.POINTER(_Board), _words, _size, _u64)
+_board_receive = _function("rrs_board_receive", _u32, ctypes.POINTER(_Board), _u32)
+_board_waits_for_input = _function("rrs_board_waits_for_input", _u32, ctypes.POINTER(_Board))
 _elf_parse = _function("rrs_elf_parse", _Elf, ctypes.c_char_p, _size)
 _elf_segment = _function("rrs_elf_segment", _Segment, ctypes.c_char_p, _size, _u32)
 _elf_load = _function("rrs_elf_load", _Loaded, ctypes.c_char_p, _size, _words, _size, _u32)
@@ -462,6 +490,29 @@ class Outcome(NamedTuple):
     value: int
 
 
+class BoardEvent(enum.IntEnum):
+    """What the last step of a run of a board has for the caller: nothing, since the limit was
+    reached; a byte that was transmitted; a look at LSR or IIR that found none received; the
+    program's end; a wfi that waits for the alarm, to which the time went forward; a wfi that
+    nothing wakes."""
+
+    LIMIT = 0
+    TRANSMITTED = 1
+    LOOKED = 2
+    FINISHED = 3
+    WAITS = 4
+    NOTHING_WAKES = 5
+
+
+class BoardEnd(NamedTuple):
+    """How a run of a board ended: how many steps were made, the BoardEvent of the last one, and the
+    byte of TRANSMITTED or the status of FINISHED, else 0."""
+
+    steps: int
+    event: BoardEvent
+    value: int
+
+
 class CsrAccess(NamedTuple):
     """The CSR that an instruction read and wrote, by its number, with the bits that were read and
     written and their values. All are 0 where there was none."""
@@ -513,9 +564,14 @@ class Csrs:
     reservation: int
 
     def __init__(self) -> None:
-        self._csrs = _Csrs()
-        self._pointer = ctypes.byref(self._csrs)
+        self._over(_Csrs())
         _csrs_reset(self._pointer)
+
+    def _over(self, csrs: _Csrs) -> Csrs:
+        """Has these be the CSRs."""
+        self._csrs = csrs
+        self._pointer = ctypes.byref(csrs)
+        return self
 
     def read(self, number: int, mip: int = 0, time: int = 0) -> Optional[int]:
         """The value of the CSR with this number, as an instruction in machine mode reads it, and None
@@ -1127,3 +1183,119 @@ def register_name(number: int) -> Optional[str]:
 def field_name(field: int) -> Optional[str]:
     """The name of a Field, such as "rd_wdata", "same" for 0, and None for another number."""
     return _name("field", field)
+
+
+class Board:
+    """A board at reset: a hart with machine mode, and the devices of QEMU's ``virt`` at its
+    addresses, a UART, a CLINT and a finisher. RAM is words from 0x80000000 on, and begins with an
+    image, bytes or words. ``size`` is the number of its words, at least those of the image; the
+    others are 0. ``profile`` says what the hart has more: 1 is extension A, and 2 user mode.
+
+    >>> board = Board(assemble("lui x1, 0x10000\\n li x2, 65\\n sb x2, 0(x1)").bytes)
+    >>> board.run(10)
+    BoardEnd(steps=3, event=<BoardEvent.TRANSMITTED: 1>, value=65)
+
+    The hart starts at the image, at 0x80000000. A copy has a board and words of its own.
+    """
+
+    def __init__(
+        self,
+        image: Union[bytes, bytearray, memoryview, Sequence[int]],
+        size: Optional[int] = None,
+        profile: int = 0,
+    ) -> None:
+        machine = Machine(image, 0x80000000, size)
+        self._memory = machine._memory
+        self._board = _Board()
+        self._aim()
+        _board_reset(self._pointer, _word_of(profile), machine.base)
+
+    def _aim(self) -> None:
+        """Notes where the board and its words lie."""
+        self._pointer = ctypes.byref(self._board)
+        self._words = (ctypes.cast(self._memory, _words), len(self._memory))
+
+    @property
+    def memory(self) -> MutableSequence[int]:
+        """The words of RAM, which may be read and written."""
+        return self._memory
+
+    @property
+    def registers(self) -> _Registers:
+        """The registers x0 to x31."""
+        return _Registers(self._board.hart)
+
+    @property
+    def pc(self) -> int:
+        """The address of the next instruction."""
+        return self._board.hart.pc
+
+    @pc.setter
+    def pc(self, value: int) -> None:
+        self._board.hart.pc = _word_of(value)
+
+    @property
+    def csrs(self) -> Csrs:
+        """The CSRs, which may be read and written: they are the board's own."""
+        return Csrs.__new__(Csrs)._over(self._board.csrs)
+
+    @property
+    def time(self) -> int:
+        """``mtime``, one more with each instruction that retires."""
+        return self._board.time
+
+    @time.setter
+    def time(self, value: int) -> None:
+        self._board.time = _long_of(value, "time")
+
+    @property
+    def alarm(self) -> int:
+        """``mtimecmp``: from this time on a timer interrupt is pending."""
+        return self._board.alarm
+
+    @alarm.setter
+    def alarm(self, value: int) -> None:
+        self._board.alarm = _long_of(value, "alarm")
+
+    @property
+    def software(self) -> int:
+        """``msip``, whose bit 0 says that a software interrupt is pending."""
+        return self._board.software
+
+    @software.setter
+    def software(self, value: int) -> None:
+        self._board.software = _word_of(value)
+
+    def run(self, limit: int) -> BoardEnd:
+        """Makes steps until ``limit`` were made, or one has something for the caller. A further call
+        goes on from there, after each event."""
+        end = _board_run(self._pointer, *self._words, _long_of(limit, "limit"))
+        return BoardEnd(end.steps, BoardEvent(end.event), end.value)
+
+    def receive(self, byte: int) -> bool:
+        """Hands the UART a byte that arrives, and returns whether it took it: where it holds one that
+        the program has not read, nothing changes."""
+        if not 0 <= byte < 256:
+            raise ValueError(f"{byte} is no byte")
+        return bool(_board_receive(self._pointer, byte))
+
+    @property
+    def waits_for_input(self) -> bool:
+        """Whether the UART asks for received data, and holds none."""
+        return bool(_board_waits_for_input(self._pointer))
+
+    def __repr__(self) -> str:
+        return f"Board(pc=0x{self.pc:08x}, time={self.time}, {len(self.memory)} words)"
+
+    def __reduce__(self) -> tuple:
+        own = ("_board", "_memory", "_pointer", "_words")
+        return _restored_board, (type(self), bytes(self._board), self._memory[:]), _added(self, *own)
+
+
+def _restored_board(kind, board, words):
+    """The board that was copied, or pickled, of a class whose __init__ may be another."""
+    copied = kind.__new__(kind)
+    copied._memory = _words_type(len(words))(*words)
+    copied._board = _Board.from_buffer_copy(board)
+    copied._aim()
+    return copied

@@ -311,7 +311,7 @@ class Faces(Counted):
             return isinstance(value, kind) and all(is_of(each, parts[0]) for each in value)
 
         machine, csrs = Machine([0x00108093] * 9), rrs.Csrs()
-        aside = Machine([0])
+        aside, board = Machine([0]), rrs.Board([0x00108093])
         for call, *arguments in (
             (Machine, [1]), (Machine, b"1234", 4, 9), (Machine, bytearray(4)), (Machine, memoryview(b"1234")),
             (Machine, (1, 2)), (machine.step,), (aside.step,), (machine.step_rvfi, 1), (aside.step_rvfi,),
@@ -325,7 +325,8 @@ class Faces(Counted):
             (rrs.disassemble, 0x13), (rrs.disassemble, 0, 4), (rrs.row_name, 1), (rrs.row_name, 0),
             (rrs.register_name, 1), (rrs.register_name, 32), (rrs.field_name, 1), (rrs.field_name, 99),
             (rrs.compare, [0] * 17, [0] * 17), (rrs.compare, (0,) * 17, range(17), True),
-            (Fault(FaultKind.ECALL, 0, 0).cause, 0, 0x73),
+            (Fault(FaultKind.ECALL, 0, 0).cause, 0, 0x73), (rrs.Board, [1], 4, 3), (board.run, 1),
+            (board.receive, 1), (board.receive, 1),
         ):
             function = call.__init__ if inspect.isclass(call) else call
             hints = typing.get_type_hints(function)
@@ -334,8 +335,8 @@ class Faces(Counted):
             for name, value in given.items():
                 self.assertTrue(is_of(value, hints[name]), (call, name, value))
             self.assertTrue(inspect.isclass(call) or is_of(result, hints["return"]), (call, result))
-        for value in (machine, aside):
-            for name, member in vars(Machine).items():
+        for value in (machine, aside, board):
+            for name, member in vars(type(value)).items():
                 if isinstance(member, property):
                     hint = typing.get_type_hints(member.fget)["return"]
                     self.assertTrue(name == "memory" or is_of(getattr(value, name), hint), name)
@@ -706,6 +707,51 @@ class Faces(Counted):
                      lambda: csrs.read(2**32), lambda: csrs.write(0, 2**32),
                      lambda: csrs.read(0, time=2**64), lambda: machine.machine_step(csrs, 2**32),
                      lambda: machine.machine_step(csrs, 0, -1), lambda: machine.undo([2**32] * 7)):
+            self.assertRaises(ValueError, call)
+
+    def test_a_board_transmits_looks_receives_and_ends(self):
+        # transmits A, waits for a byte, transmits it, and ends with status 5
+        board = rrs.Board([
+            0x100000B7, 0x04100113, 0x00208023, 0x0050C203, 0x00127213, 0xFE020CE3, 0x0000C303,
+            0x00608023, 0x001003B7, 0x00053437, 0x33340413, 0x0083A023], 64)
+        self.assertEqual(repr(board), "Board(pc=0x80000000, time=0, 64 words)")
+        self.assertEqual(board.run(2), (2, rrs.BoardEvent.LIMIT, 0))
+        self.assertEqual(board.run(9), (1, rrs.BoardEvent.TRANSMITTED, 65))
+        self.assertEqual(board.run(9), (1, rrs.BoardEvent.LOOKED, 0))
+        self.assertEqual((board.run(0), board.registers[4]), ((0, rrs.BoardEvent.LIMIT, 0), 0x60))
+        for other in (copy.copy(board), copy.deepcopy(board), pickle.loads(pickle.dumps(board))):
+            self.assertEqual((other.run(3), other.time), ((3, rrs.BoardEvent.LOOKED, 0), 7))
+            other.memory[0] = 7
+        self.assertEqual((board.memory[0], board.time, board.pc), (0x100000B7, 4, 0x80000010))
+        self.assertEqual((board.receive(66), board.receive(67)), (True, False))
+        self.assertEqual(board.run(9), (7, rrs.BoardEvent.TRANSMITTED, 66))
+        self.assertEqual(board.run(9), (4, rrs.BoardEvent.FINISHED, 5))
+        self.assertEqual((board.registers[4], board.time, board.receive(0)), (1, 15, True))
+
+    def test_a_board_waits_for_its_alarm_and_for_input(self):
+        wfi, enable = 0x10500073, [0x100000B7, 0x00100113, 0x002080A3]  # sb x2, 1(x1), for IER
+        board = rrs.Board([wfi, wfi, *enable])
+        self.assertEqual((board.run(9), board.time), ((1, rrs.BoardEvent.NOTHING_WAKES, 0), 1))
+        board.csrs.mie, board.alarm = 0x80, 1000
+        self.assertEqual((board.run(9), board.time), ((1, rrs.BoardEvent.WAITS, 0), 1000))
+        self.assertEqual((board.csrs.read(0x304), board.waits_for_input), (0x80, False))
+        self.assertEqual((board.run(3), board.waits_for_input), ((3, rrs.BoardEvent.LIMIT, 0), True))
+        self.assertEqual((board.receive(0), board.waits_for_input), (True, False))
+        board.csrs.mtvec, board.csrs.mstatus = 0x80000004, 8
+        self.assertEqual((board.run(1).steps, board.pc, board.csrs.mcause), (1, 0x80000004, 2**31 + 7))
+        self.assertEqual((board.csrs.trapped, board.time), (1, 1003))
+        board.time, board.software, board.pc = 5, 1, 0x80000000
+        self.assertEqual((board.time, board.software, board.alarm), (5, 1, 1000))
+        # amoadd.w x5, x6, (x7) where the profile has it
+        for profile, cause in ((0, 2), (1, 0)):
+            board = rrs.Board([0x0063A2AF], profile=profile)
+            board.registers[7] = 0x80000000
+            board.run(1)
+            self.assertEqual((board.csrs.mcause, board.csrs.profile), (cause, profile))
+        for call in (lambda: board.receive(256), lambda: board.receive(-1), lambda: board.run(2**64),
+                     lambda: rrs.Board([0], profile=2**32), lambda: setattr(board, "pc", 2**32),
+                     lambda: setattr(board, "time", 2**64), lambda: setattr(board, "alarm", -1),
+                     lambda: setattr(board, "software", 2**32), lambda: rrs.Board([1, 2], 1)):
             self.assertRaises(ValueError, call)
 
     def test_steps_are_taken_back(self):

@@ -117,7 +117,7 @@ impl Devices {
     }
 
     /// Shows the registers of a UART.
-    fn show(&mut self, uart: Uart)
+    pub fn show(&mut self, uart: Uart)
         ensures { self.new ≡ showing uart self.old }
     {
         self.uart = uart;

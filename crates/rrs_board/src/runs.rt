@@ -99,7 +99,7 @@ impl Board {
 }
 
 /// Whether a step took a trap.
-fn takes_trap(answer: MachineAnswer) -> bool
+pub fn takes_trap(answer: MachineAnswer) -> bool
     ensures { result ≡ takes_trap answer }
 {
     matches!(

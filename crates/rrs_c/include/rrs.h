@@ -448,6 +448,64 @@ rrs_csr rrs_csr_read(const rrs_csrs *csrs, uint32_t number, uint32_t mip, uint64
  * not change stay. Returns 1, or 0 where there is no such CSR or it is read only, and then nothing changes. */
 uint32_t rrs_csr_write(rrs_csrs *csrs, uint32_t number, uint32_t value);
 
+/* What the UART of a board keeps, a 16550. Of each register the lowest byte counts. A flag is 1, and
+ * any other number is as 0. */
+typedef struct rrs_uart {
+    uint32_t holds;            /* 1 where a byte was received that the program has not read. */
+    uint32_t received;         /* That byte. */
+    uint32_t interrupt_enable; /* IER. */
+    uint32_t has_fifos;        /* 1 where the FIFOs are enabled, by bit 0 of FCR. */
+    uint32_t line_control;     /* LCR. */
+    uint32_t modem_control;    /* MCR. */
+    uint32_t scratch;          /* SCR. */
+    uint32_t divisor_low;      /* DLL. */
+    uint32_t divisor_high;     /* DLM. */
+    uint32_t is_emptied;       /* 1 where THR became empty, and no look at IIR told so since. */
+} rrs_uart;
+
+/* A board: a hart with machine mode, and the devices of QEMU's `virt` at its addresses. RAM is words
+ * from 0x80000000 on, a UART is at 0x10000000, a CLINT at 0x2000000 (msip, and mtimecmp at 0x2004000
+ * and mtime at 0x200bff8), and a finisher at 0x100000. Whatever its bits are, it is a board. */
+typedef struct rrs_board {
+    rrs_hart hart;
+    rrs_csrs csrs;
+    uint64_t alarm;    /* mtimecmp: from this time on a timer interrupt is pending. */
+    uint64_t time;     /* mtime: one more with each instruction that retires. */
+    uint32_t software; /* msip: bit 0 says that a software interrupt is pending. */
+    rrs_uart uart;
+} rrs_board;
+
+/* Makes a board one at reset, whose hart has the extensions of a profile, as in rrs_csrs, and starts
+ * at `pc`. All registers are 0, and there is no alarm. */
+void rrs_board_reset(rrs_board *board, uint32_t profile, uint32_t pc);
+
+/* What the last step of a run has for the caller. */
+enum rrs_board_event {
+    RRS_BOARD_LIMIT = 0,        /* Nothing: the limit was reached. */
+    RRS_BOARD_TRANSMITTED = 1,  /* The program transmitted a byte, the value. */
+    RRS_BOARD_LOOKED = 2,       /* It looked at LSR or IIR, and the UART held no byte. */
+    RRS_BOARD_FINISHED = 3,     /* It ended by the finisher. The value is its status. */
+    RRS_BOARD_WAITS = 4,        /* A wfi waits for the alarm, and the time went forward to it. */
+    RRS_BOARD_NOTHING_WAKES = 5 /* A wfi waits, and no alarm can end that. */
+};
+
+typedef struct rrs_board_end {
+    uint64_t steps; /* How many steps were made: instructions that retired, exceptions, interrupts. */
+    uint32_t event; /* One of enum rrs_board_event. */
+    uint32_t value; /* The byte or the status, else 0. */
+} rrs_board_end;
+
+/* Makes steps of a board whose RAM is `count` words, until `limit` were made or one has something for
+ * the caller. A further call goes on from there, after each event. */
+rrs_board_end rrs_board_run(rrs_board *board, uint32_t *words, size_t count, uint64_t limit);
+
+/* Hands the UART a byte that arrives, the lowest of `byte`. Returns 1, or 0 where it holds one that
+ * the program has not read, and then nothing changes. A byte may arrive after any run. */
+uint32_t rrs_board_receive(rrs_board *board, uint32_t byte);
+
+/* 1 where the UART asks for received data, by IER, and holds none, else 0. */
+uint32_t rrs_board_waits_for_input(const rrs_board *board);
+
 /* An executable in the ELF format: the bytes of its file, which each function reads anew. It is
  * accepted exactly where it is an executable for RV32IM that is linked to fixed addresses, and else
  * refused for the first of these that holds. The header is checked first, for 1 to 15, then one
@@ -711,6 +769,28 @@ RRS_ASSERT(machine_retired_csr_wdata, offsetof(rrs_machine_retired, csr_wdata) =
 RRS_ASSERT(size_of_csr, sizeof(rrs_csr) == 8);
 RRS_ASSERT(csr_found, offsetof(rrs_csr, found) == 0);
 RRS_ASSERT(csr_value, offsetof(rrs_csr, value) == 4);
+RRS_ASSERT(size_of_uart, sizeof(rrs_uart) == 40);
+RRS_ASSERT(uart_holds, offsetof(rrs_uart, holds) == 0);
+RRS_ASSERT(uart_received, offsetof(rrs_uart, received) == 4);
+RRS_ASSERT(uart_interrupt_enable, offsetof(rrs_uart, interrupt_enable) == 8);
+RRS_ASSERT(uart_has_fifos, offsetof(rrs_uart, has_fifos) == 12);
+RRS_ASSERT(uart_line_control, offsetof(rrs_uart, line_control) == 16);
+RRS_ASSERT(uart_modem_control, offsetof(rrs_uart, modem_control) == 20);
+RRS_ASSERT(uart_scratch, offsetof(rrs_uart, scratch) == 24);
+RRS_ASSERT(uart_divisor_low, offsetof(rrs_uart, divisor_low) == 28);
+RRS_ASSERT(uart_divisor_high, offsetof(rrs_uart, divisor_high) == 32);
+RRS_ASSERT(uart_is_emptied, offsetof(rrs_uart, is_emptied) == 36);
+RRS_ASSERT(size_of_board, sizeof(rrs_board) == 272);
+RRS_ASSERT(board_hart, offsetof(rrs_board, hart) == 0);
+RRS_ASSERT(board_csrs, offsetof(rrs_board, csrs) == 136);
+RRS_ASSERT(board_alarm, offsetof(rrs_board, alarm) == 208);
+RRS_ASSERT(board_time, offsetof(rrs_board, time) == 216);
+RRS_ASSERT(board_software, offsetof(rrs_board, software) == 224);
+RRS_ASSERT(board_uart, offsetof(rrs_board, uart) == 228);
+RRS_ASSERT(size_of_board_end, sizeof(rrs_board_end) == 16);
+RRS_ASSERT(board_end_steps, offsetof(rrs_board_end, steps) == 0);
+RRS_ASSERT(board_end_event, offsetof(rrs_board_end, event) == 8);
+RRS_ASSERT(board_end_value, offsetof(rrs_board_end, value) == 12);
 RRS_ASSERT(size_of_elf, sizeof(rrs_elf) == 20);
 RRS_ASSERT(elf_refusal, offsetof(rrs_elf, refusal) == 0);
 RRS_ASSERT(elf_number, offsetof(rrs_elf, number) == 4);

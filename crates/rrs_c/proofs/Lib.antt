@@ -3,3 +3,4 @@ mod Carrying
 mod Jumping
 mod Logged
 mod Naming
+mod LentBoards

@@ -28,3 +28,5 @@ pub mod Jumps
 pub mod Elf
 pub mod Machines
 pub mod Undoing
+pub mod Boards
+pub mod LentBoards

@@ -8,11 +8,13 @@
 //! back, and none allocates but `rrs_assemble`, in this room.
 //!
 //! The contracts are those of the kit's own calls, over `state_in_c`: the hart, and the words from
-//! the base on, all writable.
+//! the base on, all writable. Those of a board are over `board_in_c`: what C keeps of it, and the
+//! words of its RAM.
 
 #![tactic(auto)]
 
 mod access;
+mod board;
 mod cached;
 mod causes;
 mod comparison;
@@ -22,13 +24,14 @@ mod hart;
 mod instruction;
 mod jumps;
 mod lent;
+mod lent_board;
 mod machine;
 mod names;
 mod retired;
 mod text;
 mod undoing;
 
-ghost use Rattle.std.specs.Prelude.{◌≡◌, ◌*◌, ◌^◌, ◌<◌, ◌≤◌, ◌==◌, ◌↔◌, List, length, take, slice_index, OnErr, Err};
+ghost use Rattle.std.specs.Prelude.{◌≡◌, ◌*◌, ◌%◌, ◌^◌, ◌<◌, ◌≤◌, ◌==◌, ◌↔◌, not, List, length, take, slice_index, OnErr, Err};
 ghost use Rattle.rrs_lib.specs.Encodings.{Fields};
 ghost use Rattle.rrs_lib.specs.Table.{Row, Decodes, IsIllegal};
 ghost use Rattle.rrs_lib.specs.Steps.{Step, IsOnlyStep, ChangesLittle, RunUntil, IsOnlyRunUntil, cleared};
@@ -54,6 +57,9 @@ ghost use Rattle.rrs_machine.specs.Csrs.{reset_file};
 ghost use Rattle.rrs_machine.specs.MachineSteps.{MachineStep, IsOnlyMachineStep};
 ghost use Rattle.rrs_machine.specs.MachineRecords.{MachineRetires};
 ghost use Rattle.rrs_history.specs.Changes.{undone};
+ghost use Rattle.rrs_board.specs.Uart.{has_byte};
+ghost use Rattle.rrs_board.specs.Effects.{arrived, waits_for_input};
+ghost use Rattle.rrs_c.specs.Boards.{uart_in, devices_in, board_in_c, LentRun, event_in, IsBoardEnd, as_number, IsResetInC};
 ghost use Rattle.rrs_c.specs.Machines.{profile_in, csrs_in, machine_in_c, inputs_in, machine_answer, IsOutcome, machine_retired_in, IsMachineRecord, csr_told, csr_to_write, file_after, was_written};
 ghost use Rattle.rrs_c.specs.Undoing.{change_in, IsChange};
 ghost use Rattle.rrs_lent.specs.Heaps.{IsBack};
@@ -63,6 +69,7 @@ ghost use Rattle.rrs_lent.specs.Telling.{Assembles, Needs, TellMistakes, HasNoPr
 ghost use Rattle.rrs_c.specs.Names.{PutsRowName, PutsName, named, fault_names, register_names, field_names};
 
 use access::{RrsAccess, access_or_fault, given_by};
+use board::{RrsBoard, RrsBoardEnd, board_end_of, devices_of, receive, reset_board};
 use cached::run_over_cache;
 use causes::code_of;
 use comparison::{RrsDifference, first_difference};
@@ -78,6 +85,7 @@ use lent::{
     machine_step_lent, run_lent, run_until_lent, run_until_over_cache, step_lent, step_noted_lent,
     step_retired_lent, undo_lent,
 };
+use lent_board::{LentMemory, close_board, hart_of_board, run_board};
 use machine::{
     RrsCsr, RrsCsrs, RrsMachineRetired, RrsOutcome, csr_read, csr_write, csrs_of, file_of,
     inputs_of, machine_written_out, outcome_of,
@@ -434,6 +442,58 @@ pub extern "C" fn rrs_csr_write(csrs: &mut RrsCsrs, number: u32, value: u32) -> 
     ensures trapped_kept { csrs.new.trapped ≡ csrs.old.trapped }
 {
     csr_write(csrs, number, value)
+}
+
+/// Makes a board one at reset, whose hart has the extensions of a profile and starts at an address.
+#[unsafe(no_mangle)]
+pub extern "C" fn rrs_board_reset(board: &mut RrsBoard, profile: u32, pc: u32)
+    ensures reset { IsResetInC profile pc board.new }
+{
+    *board = reset_board(profile, pc);
+}
+
+/// Makes steps of a board whose RAM is these words, until as many as `limit` were made, or a device
+/// has something for the caller. A further call goes on from there.
+///
+/// The clause: a chain of steps leads from the board before to that after, and the caller is told
+/// of the last one alone (`run`).
+#[unsafe(no_mangle)]
+pub extern "C" fn rrs_board_run(board: &mut RrsBoard, words: &mut [u32], limit: u64) -> RrsBoardEnd
+    ensures run { LentRun limit (board_in_c board.old words.old)
+        result.steps (event_in result) (board_in_c board.new words.new) }
+    ensures within { result.steps ≤ limit }
+    ensures told { IsBoardEnd result }
+    ensures last { board.new.hart.last < 32 }
+    ensures entry_zero { slice_index board.new.hart.x 0 ≡ slice_index board.old.hart.x 0 }
+{
+    let mut hart = hart_of_board(board);
+    let devices = devices_of(board);
+    let mut memory = LentMemory { words, devices };
+    let end = run_board(&mut memory, &mut hart, limit);
+    close_board(&hart, &memory.devices, board);
+    board_end_of(end.steps, end.event)
+}
+
+/// Hands the UART a byte that arrives, the lowest of the word. Returns 1, or 0 where it holds one
+/// that the program has not read, and then nothing changes.
+#[unsafe(no_mangle)]
+pub extern "C" fn rrs_board_receive(board: &mut RrsBoard, byte: u32) -> u32
+    ensures arrived { devices_in board.new ≡ arrived (byte % 256) (devices_in board.old) }
+    ensures told { result ≡ as_number (not (has_byte (uart_in board.old.uart))) }
+    ensures refused { result ≡ 0 → board.new ≡ board.old }
+    ensures hart_kept { board.new.hart ≡ board.old.hart }
+    ensures csrs_kept { board.new.csrs ≡ board.old.csrs }
+{
+    receive(board, byte)
+}
+
+/// Returns 1 where the UART asks for received data and holds none, else 0.
+#[unsafe(no_mangle)]
+pub extern "C" fn rrs_board_waits_for_input(board: &RrsBoard) -> u32
+    ensures { result ≡ as_number (waits_for_input (devices_in board.now)) }
+{
+    let devices = devices_of(board);
+    if devices.waits_for_input() { 1 } else { 0 }
 }
 
 /// The instruction that a word is: the number of its row and its fields. An instruction of a layer,

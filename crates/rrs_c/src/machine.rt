@@ -104,7 +104,7 @@ pub struct RrsMachineRetired {
 
 /// The profile of two bits.
 #[inline]
-fn profile_of(bits: u32) -> Profile
+pub(crate) fn profile_of(bits: u32) -> Profile
     ensures { result ≡ profile_in bits }
 {
     Profile {
