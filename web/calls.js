@@ -7,6 +7,9 @@
 const exitWith = (register) => ({ kit }) => ({ reason: "exit", status: kit.x[register] & 0xff });
 const exitWithZero = () => ({ reason: "exit", status: 0 });
 
+/* The number of the user, and that of the group. */
+const USER = 1000;
+
 /* Prints what a function makes of a register's value. */
 const printed = (register, textOf) => (machine) => {
   machine.print(new TextEncoder().encode(textOf(machine.kit.x[register])));
@@ -110,13 +113,22 @@ const ENVIRONMENTS = {
       80: { name: "fstat", about: "puts the status of stream x10 at x11", serve: statusCall },
       93: { name: "exit", about: "ends, with status x10", serve: exitWith(REGISTER.A0) },
       94: { name: "exit_group", about: "ends, with status x10", serve: exitWith(REGISTER.A0) },
+      160: { name: "uname", about: "puts the names of the system at x10", serve: namesCall },
       169: {
         name: "gettimeofday", about: "puts the time since 1970 at x10", serve: timeOfDayCall,
       },
       172: { name: "getpid", about: "gives 1", serve: () => 1 },
+      174: { name: "getuid", about: "gives 1000", serve: () => USER },
+      175: { name: "geteuid", about: "gives 1000", serve: () => USER },
+      176: { name: "getgid", about: "gives 1000", serve: () => USER },
+      177: { name: "getegid", about: "gives 1000", serve: () => USER },
       214: {
         name: "brk", about: "moves the end of the heap to x10",
         serve: (machine) => machine.breakCall(),
+      },
+      278: {
+        name: "getrandom", serve: randomCall,
+        about: "puts x11 random bytes at x10, 256 at most, the same in each run",
       },
       291: {
         name: "statx", about: "puts the status of a stream with an empty name at x14",

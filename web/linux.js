@@ -1,8 +1,8 @@
 "use strict";
 
 // Calls of Linux beside read, write, exit and brk, as crates/rrs_linux/specs defines them: of the
-// three streams, which are pipes, of paths that lead nowhere, and of clocks. Nothing here knows the
-// page. Each function is one of `serve` in calls.js.
+// three streams, which are pipes, of paths that lead nowhere, of clocks, of names, and of random
+// bytes. Nothing here knows the page. Each function is one of `serve` in calls.js.
 
 /* The errors of these calls. */
 const NO_ENTRY = -2;
@@ -13,6 +13,9 @@ const NO_POSITION = -29;
 
 /* The most pieces of a writev. */
 const MOST_PIECES = 1024;
+
+/* The bytes of the 32 numbers that a getrandom takes. */
+const RANDOM_BYTES = 256;
 
 /* What stands for the working directory where a descriptor is asked for. */
 const AT_FDCWD = 2 ** 32 - 100;
@@ -98,6 +101,48 @@ function clockCall(machine, extra) {
 /* gettimeofday(a0) */
 function timeOfDayCall(machine, extra) {
   return putTime(machine, extra, 0, machine.kit.x[REGISTER.A0], 1000);
+}
+
+/* What uname tells: six texts, each in a field of 65 bytes. */
+function systemNames() {
+  const bytes = new Uint8Array(6 * 65);
+  ["Linux", "rrs", "6.1.0", "#1", "riscv32", "(none)"].forEach((text, at) => {
+    bytes.set(new TextEncoder().encode(text), 65 * at);
+  });
+  return bytes;
+}
+
+/* uname(a0) */
+function namesCall(machine, extra) {
+  return putBytes(machine, extra, machine.kit.x[REGISTER.A0], systemNames());
+}
+
+/* The bytes of the next numbers of SplitMix64, from the state that the machine has and leaves. */
+function randomBytes(machine) {
+  const word = (value) => BigInt.asUintN(64, value);
+  const view = new DataView(new ArrayBuffer(RANDOM_BYTES));
+  for (let at = 0; at < RANDOM_BYTES; at += 8) {
+    machine.random = word(machine.random + 0x9e3779b97f4a7c15n);
+    let number = machine.random;
+    number = word((number ^ number >> 30n) * 0xbf58476d1ce4e5b9n);
+    number = word((number ^ number >> 27n) * 0x94d049bb133111ebn);
+    view.setBigUint64(at, number ^ number >> 31n, true);
+  }
+  return new Uint8Array(view.buffer);
+}
+
+/* getrandom(a0, a1, a2): gives bytes that are the same in each run, and answers how many. */
+function randomCall(machine, extra) {
+  const { x } = machine.kit;
+  const [address, length, flags] = [x[REGISTER.A0], x[REGISTER.A1], x[REGISTER.A2]];
+  if (flags > 7 || (flags & 6) === 6) return INVALID;
+  const bytes = randomBytes(machine);
+  const most = mostTransferred(address, length);
+  if (most <= 0) return most;
+  const count = machine.countMapped(address, Math.min(most, RANDOM_BYTES));
+  if (count === 0) return BAD_ADDRESS;
+  machine.storeBytes(address, bytes.slice(0, count), extra);
+  return count;
 }
 
 /* writev(a0, a1, a2): prints pieces, each as a write does, up to the first that is not whole. */

@@ -76,6 +76,7 @@ class Machine {
     // where more memory begins that a program asks for
     this.heap = kit.base + 4 * this.program.length;
     this.break = this.heapRange().first;
+    this.random = 0n;
     this.terminal.reset();
     this.traps.reset();
     this.history.clear();
@@ -201,12 +202,12 @@ class Machine {
 
   /* A call of the environment. */
   serveCall(fault, word) {
-    const { kit, terminal, environment, heap, break: breakBefore } = this;
+    const { kit, terminal, environment, heap, break: breakBefore, random } = this;
     const call = environment.calls[kit.x[environment.number]];
     if (call === undefined) return { reason: "fault", ...fault };
     const extra = {
       madeBy: MADE_BY.CALL, access: NO_ACCESS, name: call.name, mark: terminal.mark(), heap,
-      breakBefore, changes: [],
+      breakBefore, random, changes: [],
     };
     const answer = call.serve(this, extra);
     if (answer === null) return { reason: "waiting" };
@@ -345,10 +346,11 @@ class Machine {
   }
 
   /* Takes back what a system call or the port did beside registers and memory. */
-  restore({ mark, heap, breakBefore }) {
+  restore({ mark, heap, breakBefore, random }) {
     this.terminal.restore(mark);
     this.heap = heap ?? this.heap;
     this.break = breakBefore ?? this.break;
+    this.random = random ?? this.random;
   }
 
   /** Takes `most` steps back, or as many as are kept, and stops where the pc is a stop. Returns

@@ -7,21 +7,28 @@ import struct
 import subprocess
 import termios
 
+from trials.report import same
+
 READ, WRITE, EXIT, BRK = 63, 64, 93, 214
 IOCTL, CLOSE, LSEEK, WRITEV, GETPID = 29, 57, 62, 66, 172
+GETUID, GETEUID, GETGID, GETEGID = 174, 175, 176, 177
 NEWFSTATAT, FSTAT, STATX, GETTIMEOFDAY, CLOCK_GETTIME = 79, 80, 291, 169, 403
+UNAME, GETRANDOM = 160, 278
 NAMES = {
     READ: "read", WRITE: "write", BRK: "brk", IOCTL: "ioctl", CLOSE: "close", LSEEK: "lseek",
-    WRITEV: "writev", GETPID: "getpid", NEWFSTATAT: "newfstatat", FSTAT: "fstat", STATX: "statx",
-    GETTIMEOFDAY: "gettimeofday", CLOCK_GETTIME: "clock_gettime64",
+    WRITEV: "writev", GETPID: "getpid", GETUID: "getuid", GETEUID: "geteuid", GETGID: "getgid",
+    GETEGID: "getegid", NEWFSTATAT: "newfstatat", FSTAT: "fstat", STATX: "statx",
+    GETTIMEOFDAY: "gettimeofday", CLOCK_GETTIME: "clock_gettime64", UNAME: "uname",
+    GETRANDOM: "getrandom",
 }
 EFAULT, EBADF, ENOENT, ENOTDIR, EINVAL, ENOTTY, ESPIPE = -14, -9, -2, -20, -22, -25, -29
 
 # sixteen letters to write, where reads put bytes, where the answers are kept, and the first address
 # behind the memory of `rrs exec`
 TEXT, BUFFER, ANSWERS, END = 0x7000, 0x8000, 0x9000, 0x100000
-# the pieces of a writev, a byte that is 0, where a status is put, and where a time is
-VECTOR, EMPTY, STATUS, TIME = 0x7100, 0x7200, 0xA000, 0xB000
+# the pieces of a writev, a byte that is 0, where a status is put, where a time is, and where random
+# bytes and names are
+VECTOR, EMPTY, STATUS, TIME, RANDOM = 0x7100, 0x7200, 0xA000, 0xB000, 0xC000
 PIECES = (TEXT, 4, TEXT + 4, 2, END, 1, TEXT, 0x80000000)
 AT_FDCWD, AT_EMPTY_PATH = 0xFFFFFF9C, 0x1000
 LETTERS = "0123456789abcdef"
@@ -111,12 +118,29 @@ CALLS = [
     (CLOSE, 2, 0),
     (CLOSE, 3, EBADF),
     (GETPID, 9, 1),
+    (GETUID, 9, 1000),
+    (GETEUID, 9, 1000),
+    (GETGID, 9, 1000),
+    (GETEGID, 9, 1000),
     (CLOCK_GETTIME, 0, TIME, 0),
     (CLOCK_GETTIME, 3, TIME, 0),
     (CLOCK_GETTIME, 4, TIME, EINVAL),
     (CLOCK_GETTIME, 1, END, EFAULT),
     (GETTIMEOFDAY, TIME, 0),
     (GETTIMEOFDAY, 0xFFFFFFF8, EFAULT),
+    # random bytes: each call but the last two of these goes on by 32 numbers
+    (GETRANDOM, RANDOM, 16, 0, 16),
+    (GETRANDOM, RANDOM + 16, 300, 1, 256),
+    (GETRANDOM, END - 3, 8, 4, 3),
+    (GETRANDOM, END, 0, 0, 0),
+    (GETRANDOM, END, 1, 0, EFAULT),
+    (GETRANDOM, 0xFFFFFFFF, 2, 2, EFAULT),
+    (GETRANDOM, RANDOM, 16, 6, EINVAL),
+    (GETRANDOM, RANDOM, 16, 8, EINVAL),
+    (GETRANDOM, RANDOM + 272, 8, 0, 8),
+    # the names of the system
+    (UNAME, RANDOM + 280, 0),
+    (UNAME, END - 389, EFAULT),
 ]
 
 # what the calls write, and what then stands at BUFFER
@@ -129,6 +153,21 @@ for place, field in {16: 0x1180, 20: 1, 56: 4096, 104: 0x7FF, 108: 4096, 120: 1,
     struct.pack_into("<I", STATUSES, place, field)
 
 
+def random_number(index):
+    """The number of SplitMix64 at this index, from the seed 0."""
+    z = (index + 1) * 0x9E3779B97F4A7C15 % 2 ** 64
+    z = (z ^ z >> 30) * 0xBF58476D1CE4E5B9 % 2 ** 64
+    z = (z ^ z >> 27) * 0x94D049BB133111EB % 2 ** 64
+    return z ^ z >> 31
+
+
+# what then stands at RANDOM: random bytes of three calls, and the names
+RANDOMS = b"".join(random_number(index).to_bytes(8, "little")
+                   for index in (0, 1, *range(32, 64), 192))
+NAMED = b"".join(text.ljust(65, b"\0")
+                 for text in (b"Linux", b"rrs", b"6.1.0", b"#1", b"riscv32", b"(none)"))
+
+
 def make_call(number, *arguments):
     """The lines of a call."""
     values = zip(("a7", "a0", "a1", "a2", "a3", "a4"), (number, *arguments))
@@ -136,12 +175,13 @@ def make_call(number, *arguments):
 
 
 def source():
-    """A program that makes the calls, and then writes what stands at BUFFER, and the answers."""
+    """A program that makes the calls, and writes what they put into memory, and the answers."""
     lines = [f"li s0, {ANSWERS:#x}"]
     for *call, _ in CALLS:
         lines += make_call(*call) + ["sw a0, (s0)", "addi s0, s0, 4"]
     lines += make_call(WRITE, 1, BUFFER, len(STORED))
     lines += make_call(WRITE, 1, STATUS, len(STATUSES))
+    lines += make_call(WRITE, 1, RANDOM, len(RANDOMS + NAMED))
     lines += make_call(WRITE, 1, ANSWERS, 4 * len(CALLS))
     lines += make_call(EXIT, 0)
     return "\n".join([*lines, f".org {TEXT:#x}", f'.ascii "{LETTERS}"', f".org {VECTOR:#x}",
@@ -173,7 +213,10 @@ def execute(rrs, program):
     finally:
         os.close(leader)
         os.close(terminal)
-    return run.stdout
+    # a line at the end says that a break was refused
+    refused = b"rrs exec: the program was refused memory: --memory gives it more\n"
+    same("the last line on standard error", True, run.stdout.endswith(refused))
+    return run.stdout.removesuffix(refused)
 
 
 def differences(output):
@@ -186,6 +229,6 @@ def differences(output):
         if wanted != got
     ]
     rest = output[:-len(answers)]
-    if not found and rest != (WRITTEN + STORED).encode() + STATUSES:
+    if not found and rest != (WRITTEN + STORED).encode() + STATUSES + RANDOMS + NAMED:
         found.append(f"the calls wrote and stored {rest}")
     return found

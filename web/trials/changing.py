@@ -260,8 +260,9 @@ def calls_shown(machine):
     machine.choose("three")
     linux = [["29", "ioctl"], ["57", "close"], ["62", "lseek"], ["63", "read"], ["64", "write"],
              ["66", "writev"], ["79", "newfstatat"], ["80", "fstat"], ["93", "exit"],
-             ["94", "exit_group"], ["169", "gettimeofday"], ["172", "getpid"], ["214", "brk"],
-             ["291", "statx"], ["403", "clock_gettime64"]]
+             ["94", "exit_group"], ["160", "uname"], ["169", "gettimeofday"], ["172", "getpid"],
+             ["174", "getuid"], ["175", "geteuid"], ["176", "getgid"], ["177", "getegid"],
+             ["214", "brk"], ["278", "getrandom"], ["291", "statx"], ["403", "clock_gettime64"]]
     environments = {"Linux": ("a7", linux), **calls_in_the_docs()}
     for name, (register, calls) in environments.items():
         page.choose("#calls", name.lower())

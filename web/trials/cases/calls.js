@@ -150,10 +150,29 @@ function breaks(report, page, kit) {
   report.same("after a reset", 0x80000, machine.break);
 }
 
+/* The random bytes of Linux's calls, which a step back takes back: the first ones that SplitMix64
+ * gives from 0. */
+function randoms(report, page, kit) {
+  const first = [0xaf, 0xcd, 0x1d, 0x7b, 0x39, 0xa8, 0x20, 0xe2];
+  const registers = { [A7]: 278, [A0]: AT, [A1]: 8, 12: 0 };
+  report.same("random bytes", [8, "", 0, A0, "getrandom, a0 = 0x00000008", 4],
+    outcome(page, kit, "linux", registers));
+  const machine = beforeCall(page, kit, "linux", registers);
+  const given = () => [machine.step(), [...kit.bytes.subarray(AT, AT + 8)]];
+  report.same("the first of them", [null, first], given());
+  machine.stepBack();
+  report.same("and again", [null, first], given());
+  Object.assign(kit, { pc: 0 });
+  kit.x[A0] = AT;
+  report.same("others by the next call", false, given()[1].join() === first.join());
+}
+
 function tables(report, page) {
   const numbers = ({ calls }) => Object.keys(calls).map(Number);
   const { linux, rars: ofRars, venus: ofVenus } = page.ENVIRONMENTS;
-  report.same("the numbers of the calls", [[29, 57, 62, 63, 64, 66, 79, 80, 93, 94, 169, 172, 214, 291, 403],
+  report.same("the numbers of the calls", [
+    [29, 57, 62, 63, 64, 66, 79, 80, 93, 94, 160, 169, 172, 174, 175, 176, 177, 214, 278, 291,
+      403],
     [1, 4, 5, 8, 9, 10, 11, 12, 34, 35, 36, 93], [1, 4, 9, 10, 11, 17, 34]],
   [linux, ofRars, ofVenus].map(numbers));
   report.same("the registers with the number", [A7, A7, A0],
@@ -181,7 +200,9 @@ function sentences(report, page, kit) {
 /** Tries the calls of other environments. */
 function tryCalls(report, page, kit) {
   report.begin("calls");
-  for (const part of [tables, rars, rarsStrings, venus, moreMemory, breaks, sentences]) {
+  for (const part of [
+    tables, rars, rarsStrings, venus, moreMemory, breaks, randoms, sentences,
+  ]) {
     part(report, page, kit);
   }
 }

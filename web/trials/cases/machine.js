@@ -24,13 +24,13 @@ function nonzero(numbers) {
 
 /* All that a step may change, as one text. */
 function digest(machine) {
-  const { kit, executed, kinds, terminal, heap, history, traps } = machine;
+  const { kit, executed, kinds, terminal, heap, random, history, traps } = machine;
   const { output, printed, lost, input, held, taken, isClosed, port } = terminal;
   return JSON.stringify([
     [...kit.x], kit.pc, kit.last, nonzero(kit.words), nonzero(executed), nonzero(kinds),
     [...output.subarray(0, printed)], lost, input, held, taken, isClosed, port, heap,
-    machine.break, history.steps, history.first, [...history.extras.keys()], [...traps.csrs],
-    traps.time, traps.alarmLow, traps.alarmHigh, traps.software,
+    machine.break, String(random), history.steps, history.first, [...history.extras.keys()],
+    [...traps.csrs], traps.time, traps.alarmLow, traps.alarmHigh, traps.software,
   ]);
 }
 

@@ -130,8 +130,9 @@ function ends() {
     + `where there is no memory. ${MEMORY} ${NOTHING}`, "end"];
   const call = (number) => ["Environment call", `The ecall at 0x80000004 asks for system call `
     + `${number} (a7). This page serves 29 (ioctl), 57 (close), 62 (lseek), 63 (read), 64 (write), `
-    + "66 (writev), 79 (newfstatat), 80 (fstat), 93 (exit), 94 (exit_group), 169 (gettimeofday), "
-    + "172 (getpid), 214 (brk), 291 (statx) and 403 (clock_gettime64), as Linux has them. "
+    + "66 (writev), 79 (newfstatat), 80 (fstat), 93 (exit), 94 (exit_group), 160 (uname), "
+    + "169 (gettimeofday), 172 (getpid), 174 (getuid), 175 (geteuid), 176 (getgid), 177 (getegid), "
+    + "214 (brk), 278 (getrandom), 291 (statx) and 403 (clock_gettime64), as Linux has them. "
     + NOTHING, "end"];
   return [
     [[0xffffffff], ["Illegal instruction", "The word at 0x80000000 is 0xffffffff, which is no "
