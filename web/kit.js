@@ -33,11 +33,22 @@ const LAYOUT = {
   name: { size: 20 },
   csrs: {
     size: 72, mstatus: 0, mie: 4, mtvec: 8, mscratch: 12, mepc: 16, mcause: 20, mtval: 24,
-    mcountinhibit: 28, mcycle: 32, minstret: 40,
+    mcountinhibit: 28, mcycle: 32, minstret: 40, profile: 52, user: 56, mcounteren: 60,
   },
   outcome: { size: 12 },
   machineRetired: { size: 112, rd: 44 },
+  board: { size: 272, hart: 0, csrs: 136, alarm: 208, time: 216 },
+  boardEnd: { size: 16, steps: 0, event: 8, value: 12 },
 };
+
+/* The bits of a profile: extension A, and user mode. */
+const PROFILE = { ATOMICS: 1, USER_MODE: 2 };
+
+/* The alarm of a board that has none. */
+const NO_BOARD_ALARM = 2n ** 64n - 1n;
+
+/* What a run of a board has for its caller, as rrs.h numbers it. */
+const EVENT = { NONE: 0, TRANSMITTED: 1, LOOKED: 2, FINISHED: 3, WAITS: 4, NOTHING_WAKES: 5 };
 
 /* The flags of a segment whose bytes are executed, and of one that is written to. */
 const IS_CODE = 1;
@@ -409,6 +420,93 @@ class Assembler {
   textAt(start, length) {
     const first = this.at.texts + start;
     return this.decoder.decode(this.u8.subarray(first, first + length));
+  }
+}
+
+/** The library's calls over a board, which lies with its RAM in the memory of a module of its own. */
+class BoardKit {
+  constructor(module, ramBytes) {
+    const { exports } = new WebAssembly.Instance(module, {});
+    this.exports = exports;
+    const places = new Places(exports);
+    for (const name of ["board", "boardEnd", "loaded", "text"]) {
+      this[name] = places.of(LAYOUT[name].size);
+    }
+    this.ram = places.of(ramBytes);
+    this.places = places;
+    this.count = BigInt(ramBytes / 4);
+    this.view(ramBytes);
+  }
+
+  /* Makes the views of the memory, which has reached to the last place. */
+  view(ramBytes) {
+    this.places.grow();
+    const { buffer } = this.exports.memory;
+    const { hart, csrs, alarm } = LAYOUT.board;
+    const words = (at, count) => new Uint32Array(buffer, this.board + at, count);
+    this.data = new DataView(buffer);
+    this.bytes = new Uint8Array(buffer, this.ram, ramBytes);
+    this.words = new Uint32Array(buffer, this.ram, ramBytes / 4);
+    this.x = words(hart + LAYOUT.hart.x, 32);
+    this.pcs = words(hart + LAYOUT.hart.pc, 1);
+    this.csrs = words(csrs, LAYOUT.csrs.size / 4);
+    this.times = new BigUint64Array(buffer, this.board + alarm, 2);
+  }
+
+  get pc() { return this.pcs[0]; }
+
+  /** The time from which on the timer's interrupt is pending, or Infinity where there is none. */
+  get alarm() {
+    return this.times[0] === NO_BOARD_ALARM ? Infinity : Number(this.times[0]);
+  }
+
+  get time() { return Number(this.times[1]); }
+
+  /** Has the board at reset, with all of RAM 0, at an address. */
+  reset(pc) {
+    this.bytes.fill(0);
+    const profile = PROFILE.ATOMICS | PROFILE.USER_MODE;
+    this.exports.rrs_board_reset(BigInt(this.board), profile, pc);
+  }
+
+  /** Puts the segments of an executable into RAM, which begins at an address. Returns whether all of
+   * them lie in it. */
+  loadElf(file, start) {
+    const at = this.places.of(file.length);
+    this.view(this.bytes.length);
+    new Uint8Array(this.exports.memory.buffer, at, file.length).set(file);
+    this.exports.rrs_elf_load(BigInt(this.loaded), BigInt(at), BigInt(file.length), BigInt(this.ram),
+      this.count, start);
+    this.places.next = at;
+    return this.data.getUint32(this.loaded + LAYOUT.loaded.refusal, true) === 0;
+  }
+
+  /** Makes steps until `limit` were made, or a device has something for the caller: `{ steps, event,
+   * value }`. */
+  run(limit) {
+    this.exports.rrs_board_run(
+      BigInt(this.boardEnd), BigInt(this.board), BigInt(this.ram), this.count, BigInt(limit));
+    const { steps, event, value } = LAYOUT.boardEnd;
+    const word = (offset) => this.data.getUint32(this.boardEnd + offset, true);
+    return { steps: word(steps) + 2 ** 32 * word(steps + 4), event: word(event), value: word(value) };
+  }
+
+  /** Hands the UART a byte. Returns whether it took it: it holds one at a time. */
+  receive(byte) {
+    return this.exports.rrs_board_receive(BigInt(this.board), byte) !== 0;
+  }
+
+  /** Whether the UART asks for received data, and holds none. */
+  get waitsForInput() {
+    return this.exports.rrs_board_waits_for_input(BigInt(this.board)) !== 0;
+  }
+
+  /** The text of a word at an address, or "" where it is no instruction. */
+  disassemble(word, pc) {
+    const length = Number(this.exports.rrs_disassemble(
+      word, pc, BigInt(this.text), BigInt(LAYOUT.text.size)));
+    const letters = new Uint8Array(this.exports.memory.buffer, this.text, length);
+    return String.fromCharCode(...letters);
   }
 }
 

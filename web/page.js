@@ -23,6 +23,7 @@ class Page {
     this.editor = new EditorView(session);
     this.lesson = new LessonView(session);
     this.tabs = new TabsView(() => this.render());
+    this.board = new BoardView(new Board(session.machine.kit.module));
     this.work = new Work(this, new Keeping(() => localStorage));
     this.views = [
       this.listing, this.registers, this.memory, new ConsoleView(session), new FramesView(session),
@@ -223,6 +224,7 @@ class Page {
     $("file").addEventListener("change", (event) => this.openFiles(event.target.files));
     $("typing").addEventListener("submit", (event) => this.send(event));
     this.listenToEditor();
+    this.listenToImages();
     $("first-lesson").addEventListener("click", () => saveFile(FIRST_LESSON, "lesson.txt"));
     $("choose-calls").addEventListener("click", () => this.chooseCalls());
     $("clear").addEventListener("click", () => $("clearing").showModal());
@@ -254,6 +256,29 @@ class Page {
     window.addEventListener("resize", () => this.render());
     window.addEventListener("hashchange", () => this.openLink());
     this.listenToDrops();
+  }
+
+  /* The buttons that boot an image: a file, or the one that was built into the page. */
+  listenToImages() {
+    $("boot").addEventListener("click", () => $("image").click());
+    $("image").addEventListener("change", async ({ target }) => {
+      const [file] = target.files;
+      if (file) this.openImage(file.name, await contentOf(file));
+      target.value = "";
+    });
+    $("boot-linux").hidden = IMAGE === null;
+    $("boot-linux").addEventListener("click", async () =>
+      this.openImage(IMAGE.name, await inflated(IMAGE.data, RAM_BYTES)));
+  }
+
+  /* Opens an image on the board. A program that runs is paused. */
+  openImage(name, bytes) {
+    $("more").open = false;
+    this.session.pause();
+    const mistake = bytes === null ? UNREADABLE : this.board.open(name, bytes);
+    if (mistake === "") return;
+    this.board.close();
+    this.refuse(bytes === null ? `${name} ${mistake}` : `${name} was not opened. ${mistake}`);
   }
 
   listenToEditor() {
@@ -333,6 +358,7 @@ class Page {
 
   press(event) {
     if (event.defaultPrevented || document.querySelector("dialog[open]")) return;
+    if (this.board.isOpen) return;
     if (event.target === $("listing") && this.pressInListing(event)) return;
     if (event.target.matches("input, textarea, select") || !$("keys-on").checked) return;
     const action = actionOf(event);
@@ -536,6 +562,8 @@ class Page {
   async openBytes(name, bytes) {
     const { machine: { kit }, machine: { hasStack }, calls } = this.session;
     const { base, size } = kit;
+    if (isBoardImage(bytes)) return this.openImage(name, bytes);
+    if (this.board.isOpen) this.board.close();
     try {
       if (isElf(bytes)) {
         const program = await programOfElf(kit, bytes);

@@ -334,12 +334,16 @@ async function encodeLink({ text, language, base, size, hasStack, calls = "linux
   return `#${memory}${served}${read}&program=${await packed(text)}`;
 }
 
+/** The bytes that are packed in base64, of which there may be so many. */
+function inflated(base64, most) {
+  const held = Uint8Array.from(atob(base64), (letter) => letter.charCodeAt(0));
+  return piped(held, new DecompressionStream("deflate-raw"), most);
+}
+
 /* The text that is packed in a link. Throws a ProgramError. */
 async function unpacked(given) {
   try {
-    const letters = atob(given.replaceAll("-", "+").replaceAll("_", "/"));
-    const held = Uint8Array.from(letters, (letter) => letter.charCodeAt(0));
-    const bytes = await piped(held, new DecompressionStream("deflate-raw"), MOST_TEXT);
+    const bytes = await inflated(given.replaceAll("-", "+").replaceAll("_", "/"), MOST_TEXT);
     return new TextDecoder("utf-8", { fatal: true, ignoreBOM: true }).decode(bytes);
   } catch (error) {
     if (error instanceof ProgramError) throw error;

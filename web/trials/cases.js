@@ -21,6 +21,7 @@ const { tryChanges } = require("./cases/changes.js");
 const { tryAssembly } = require("./cases/assembly.js");
 const { tryLessons } = require("./cases/lessons.js");
 const { tryExecutables } = require("./cases/executables.js");
+const { tryBoards } = require("./cases/boards.js");
 
 async function main([folder, module]) {
   const clock = makeClock();
@@ -40,6 +41,7 @@ async function main([folder, module]) {
   tryAssembly(report, page, kit);
   await tryLessons(report, page, kit, clock);
   await tryExecutables(report, page, kit);
+  await tryBoards(report, page, kit, clock);
   for (const [subject, count] of report.counts) console.log(`${subject} ${count}`);
   return report.failed === 0 ? 0 : 1;
 }

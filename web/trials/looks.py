@@ -174,8 +174,8 @@ def focus(machine):
     page.click_at([3, 3])
     same("the order of the focus", FOCUS_ORDER, tab_order(page))
     page.ask("$('more').open = true; $('more').firstElementChild.focus()")
-    same("the order in the menu of rare things", ["preset", "theme", "clear"], [
-        page.press("Tab") or page.ask(FOCUS)[0] for _ in range(3)])
+    same("the order in the menu of rare things", ["preset", "boot", "theme", "clear"], [
+        page.press("Tab") or page.ask(FOCUS)[0] for _ in range(4)])
     for name, key in DIALOGS.items():
         machine.leave_fields()
         page.press(key)
@@ -330,7 +330,7 @@ def write(machine):
     (EXPECTED / "looks.txt").write_text("\n".join([*lines, ""]), encoding="utf-8")
 
 
-LOOKED_AT = 132
+LOOKED_AT = 133
 
 # ---- boxes and marks
 

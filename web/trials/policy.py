@@ -81,7 +81,7 @@ def policy(browser):
     elements = Elements()
     elements.feed(Subject.page.read_text(encoding="utf-8"))
     scripts, styles = elements.texts["script"], elements.texts["style"]
-    same("how many scripts and styles", (24, 1), (len(scripts), len(styles)))
+    same("how many scripts and styles", (27, 1), (len(scripts), len(styles)))
     same("the policy", POLICY.format(hashes(scripts), hashes(styles)), elements.policy)
     same("attributes that it refuses, and what is taken from elsewhere", [], elements.refused)
     page = opened(browser, Subject.page.as_uri()).page

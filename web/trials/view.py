@@ -138,6 +138,7 @@ class Machine:
 
 CLEAN = """(() => {
     rrs.session.stop();
+    if (rrs.board.isOpen) rrs.board.close();
     for (const dialog of document.querySelectorAll("dialog[open]")) dialog.close();
     rrs.closeLesson();
     rrs.work.clear();

@@ -6,7 +6,7 @@ import subprocess
 import tempfile
 
 import join
-from trials import actions, changing, generated, keeping, looks, policy, teaching
+from trials import actions, boards, changing, generated, keeping, looks, policy, teaching
 from trials.report import Differs, Report, differing_counts, same
 from trials.together import Desk, Trial, make_all
 from trials.view import EXPECTED, WEB, Subject
@@ -51,6 +51,11 @@ IN_NODE = [
     ("lesson.js", "kit.bytes.set(memory.bytes, places.get(memory.label).offset);", "{}"),
     ("lesson.js", "if (isLesson(text) || ", "if (!isLesson(text) || "),
     ("lesson.js", "exercise.tries.some(", "exercise.tries.every("),
+    ("board.js", "this.kit.receive(this.typed[0])) this.typed.shift();",
+     "true) this.typed.shift();"),
+    ("board.js", "return this.ahead;", "return 0;"),
+    ("board.js", "regmap: [2],", "regmap: [1],"),
+    ("board.js", 'if (letter === "\\b") this.column = Math.max(0, this.column - 1);', ""),
 ]
 IN_BROWSER = [
     (actions.by_each_way, "page.js", '"click", () => this.act(', '"click", () => void ('),
@@ -76,6 +81,9 @@ IN_BROWSER = [
     (teaching.lesson_of_cases, "views.js", "const why = isHidden ?", "const why = false ?"),
     (teaching.lesson_of_cases, "page.js", '$("save-tries").focus();', ""),
     (teaching.lesson_on_a_phone, "work.js", "if (lesson.handedIn !== undefined) return;", ""),
+    (boards.board, "screen.js",
+     '$("board-step").addEventListener("click", () => board.step());', ""),
+    (boards.refused, "page.js", "if (this.board.isOpen) this.board.close();", ""),
 ]
 
 # those that are given a browser, and no page

@@ -7,8 +7,8 @@ const path = require("node:path");
 
 const SCRIPTS = [
   "kit", "terminal", "records", "actions", "traps", "machine", "linux", "calls", "frames", "convention",
-  "assembly", "colours", "program", "executable", "lesson", "examples", "wording", "keeping", "session",
-  "views", "editor",
+  "assembly", "colours", "program", "executable", "lesson", "examples", "wording", "board", "keeping",
+  "session", "views", "editor", "screen",
 ];
 const DEFINED = /^(?:const|class|function|async function) ([A-Za-z_]\w*)/gm;
 

@@ -1,0 +1,165 @@
+"use strict";
+
+// A board in the page: its terminal, and beside it what its hart holds. It stands in the place of the
+// program while it is open.
+
+/* The keys that are typed as a byte of their own, and those that a terminal sends as a sequence. */
+const KEY_BYTES = { Enter: "\r", Backspace: "\x7f", Delete: "\x1b[3~", Escape: "\x1b" };
+const ARROW_BYTES = {
+  ArrowUp: "\x1b[A", ArrowDown: "\x1b[B", ArrowRight: "\x1b[C", ArrowLeft: "\x1b[D",
+  Home: "\x1b[H", End: "\x1b[F",
+};
+
+/* The CSRs that are shown of a board. */
+const BOARD_CSRS = [
+  "mstatus", "mtvec", "mie", "mepc", "mcause", "mtval", "mscratch", "mcounteren",
+];
+
+/** What a key types into a terminal, or "" where it is a key of the browser. */
+function typedBy({ key, ctrlKey, altKey, metaKey }) {
+  if (altKey || metaKey) return "";
+  if (ctrlKey) return /^[a-z[\]\\^_]$/i.test(key) ? controlOf(key) : "";
+  if (key.length === 1) return key;
+  return KEY_BYTES[key] ?? ARROW_BYTES[key] ?? "";
+}
+
+/* The control character of a letter: Ctrl and V is left to the browser, which pastes. */
+function controlOf(key) {
+  const letter = key.toUpperCase();
+  return letter === "V" ? "" : String.fromCharCode(letter.charCodeAt(0) & 31);
+}
+
+/** The view of a board. */
+class BoardView {
+  constructor(board) {
+    Object.assign(this, { board, isDue: false, follows: true });
+    this.csrs = ["mode", ...BOARD_CSRS, "mtime", "mtimecmp"].map((name) => this.makeCell("csr", name));
+    this.registers = ABI_NAMES.map((name, number) =>
+      this.makeCell("hart", number ? name : "pc", number ? `x${number}` : ""));
+    $("board-csrs").append(...this.csrs);
+    $("board-registers").append(...this.registers);
+    board.onChange = () => this.renderSoon();
+    this.listen();
+  }
+
+  makeCell(kind, name, other) {
+    const parts = [make("span", "name", name), make("span", "value")];
+    if (kind === "hart") parts.splice(1, 0, make("span", "number", other));
+    const cell = makeRow("div", parts);
+    cell.className = kind;
+    cell.setAttribute("role", "listitem");
+    return cell;
+  }
+
+  get isOpen() {
+    return !$("board").hidden;
+  }
+
+  /** Opens an image, and runs it. Returns "", or why it can't be opened. */
+  open(name, bytes) {
+    const mistake = this.board.open(name, bytes);
+    if (mistake) return mistake;
+    this.show(true);
+    setText($("board-title"), name);
+    this.board.run();
+    $("terminal").focus();
+    return "";
+  }
+
+  close() {
+    this.board.pause();
+    this.show(false);
+    $("listing").focus();
+  }
+
+  /* Shows the board in the place of the program, or the program. */
+  show(isBoard) {
+    $("board").hidden = !isBoard;
+    document.body.classList.toggle("on-board", isBoard);
+  }
+
+  listen() {
+    const { board } = this;
+    $("board-run").addEventListener("click", () => (board.isRunning ? board.pause() : board.run()));
+    $("board-step").addEventListener("click", () => board.step());
+    $("board-reset").addEventListener("click", () => {
+      board.reset();
+      board.run();
+      $("terminal").focus();
+    });
+    $("board-close").addEventListener("click", () => this.close());
+    $("terminal").addEventListener("keydown", (event) => this.press(event));
+    $("terminal").addEventListener("scroll", ({ target }) => {
+      this.follows = target.scrollTop + target.clientHeight >= target.scrollHeight - 4;
+    });
+    $("terminal").addEventListener("paste", (event) => {
+      event.preventDefault();
+      this.type(event.clipboardData.getData("text").replace(/\r?\n/g, "\r"));
+    });
+    $("board-typing").addEventListener("submit", (event) => {
+      event.preventDefault();
+      this.type(`${$("board-line").value}\r`);
+      $("board-line").value = "";
+    });
+  }
+
+  /* Tab stays a key of the browser, so that one can leave the terminal by keys. */
+  press(event) {
+    const isCopy = event.ctrlKey && event.key === "c" && !getSelection().isCollapsed;
+    const typed = isCopy ? "" : typedBy(event);
+    if (typed === "") return;
+    event.preventDefault();
+    this.type(typed);
+  }
+
+  type(text) {
+    this.board.type(new TextEncoder().encode(text));
+  }
+
+  /* Renders before the browser next shows the page. */
+  renderSoon() {
+    if (this.isDue) return;
+    this.isDue = true;
+    requestAnimationFrame(() => {
+      this.isDue = false;
+      if (this.board.kit !== undefined) this.render();
+    });
+  }
+
+  render() {
+    this.renderTerminal();
+    this.renderState();
+    this.renderHart();
+  }
+
+  /* What was printed, and the cursor behind it. One who has scrolled up stays there. */
+  renderTerminal() {
+    setText($("printed"), this.board.screen.text);
+    if (this.follows) $("terminal").scrollTop = $("terminal").scrollHeight;
+  }
+
+  renderState() {
+    const { board } = this;
+    const { isRunning, isWaiting, ending, steps } = board;
+    const going = isWaiting ? "It waits for what you type." : "It runs.";
+    setText($("board-state"), ending || (isRunning ? going : "It is paused."));
+    setText($("board-run"), isRunning ? "Pause" : "Go on");
+    for (const id of ["board-run", "board-step"]) {
+      $(id).setAttribute("aria-disabled", ending !== "");
+    }
+    const seconds = (board.running / 1000).toFixed(1);
+    setText($("board-steps"), `${counted(steps, "step")}, ${seconds} s`);
+  }
+
+  renderHart() {
+    const { kit } = this.board;
+    this.registers.forEach((cell, number) =>
+      setText(cell.lastChild, hex(number ? kit.x[number] : kit.pc)));
+    const mode = kit.csrs[CSR.user] === 1 ? "user" : "machine";
+    const values = [mode, ...BOARD_CSRS.map((name) => hex(kit.csrs[CSR[name]])),
+      numbered(kit.time), kit.alarm === Infinity ? "none" : numbered(kit.alarm)];
+    values.forEach((value, at) => setText(this.csrs[at].lastChild, value));
+    const word = kit.words[(kit.pc - RAM_START) / 4];
+    setText($("board-next"), word === undefined ? "" : kit.disassemble(word, kit.pc));
+  }
+}

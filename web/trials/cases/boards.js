@@ -1,0 +1,193 @@
+"use strict";
+
+// A board in the page: how it starts, what is typed into it, how it waits, and what is shown.
+
+const { createHash } = require("node:crypto");
+
+/* Prints "hi", then each byte that arrives, and ends behind a q, with status 7. */
+const ECHO = `
+        li s0, 0x10000000
+        la s1, greeting
+print:  lbu a0, 0(s1)
+        beqz a0, echo
+        sb a0, 0(s0)
+        addi s1, s1, 1
+        j print
+echo:   lbu t0, 5(s0)
+        andi t0, t0, 1
+        beqz t0, echo
+        lbu a0, 0(s0)
+        sb a0, 0(s0)
+        li t1, 113
+        bne a0, t1, echo
+        li t0, 0x100000
+        li t1, 0x73333
+        sw t1, 0(t0)
+greeting: .string "hi\\n"
+`;
+
+/* Waits for a byte by wfi, prints it, and waits again where the UART asks for none. */
+const WAIT = `
+        li s0, 0x10000000
+        li t0, 1
+        sb t0, 1(s0)
+        wfi
+        lbu a0, 0(s0)
+        sb a0, 0(s0)
+        sb zero, 1(s0)
+        wfi
+`;
+
+/* Waits for the alarm at 2,000,000, a fifth of a second, and ends. */
+const SLEEP = `
+        li t0, 0x2004000
+        li t1, 2000000
+        sw zero, 4(t0)
+        sw t1, 0(t0)
+        li t1, 128
+        csrw mie, t1
+        wfi
+        li t0, 0x100000
+        li t1, 0x5555
+        sw t1, 0(t0)
+`;
+
+const typed = (text) => new TextEncoder().encode(text);
+
+/* Opens what a text assembles to. */
+function open(page, kit, board, text) {
+  return board.open("it", kit.assemble(text, page.RAM_START).bytes);
+}
+
+/* How the board stands: what was printed, what ended it, and whether it runs and waits. */
+const stands = ({ screen, ending, isRunning, isWaiting }) =>
+  [screen.text, ending, isRunning, isWaiting];
+
+async function echoes(report, page, kit, clock, board) {
+  clock.tasks.length = 0;
+  report.same("an image", "", open(page, kit, board, ECHO));
+  const { kit: { x, pc, csrs } } = board;
+  report.same("at reset", [0x80000000, 0, 0x81ff0000, 3, 0, 0],
+    [pc, x[10], x[11], csrs[page.CSR.profile], csrs[page.CSR.user], board.kit.time]);
+  report.same("the tree in RAM", [0xd0, 0x0d, 0xfe, 0xed],
+    [...board.kit.bytes.subarray(page.RAM_BYTES - page.TREE_ROOM).subarray(0, 4)]);
+  board.step();
+  report.same("a step", [1, 0x80000004, 0x10000000], [board.steps, board.kit.pc, x[8]]);
+  board.run();
+  report.same("what it prints", ["hi\n", "", true, false], stands(board));
+  board.type(typed("abq"));
+  report.same("what is typed is not read at once", 3, board.typed.length);
+  await clock.next();
+  report.same("what it read", ["hi\nabq", "It was powered off, with status 7.", false, false],
+    stands(board));
+  const { steps } = board;
+  board.run();
+  board.step();
+  report.same("no step after the end", steps, board.steps);
+  board.reset();
+  report.same("booted again", ["", "", false, false, 0, 0x80000000],
+    [...stands(board), board.steps, board.kit.pc]);
+  board.type(typed("q"));
+  board.run();
+  report.same("the steps to the end", [34, "hi\nq"], [board.steps, board.screen.text]);
+}
+
+async function waits(report, page, kit, clock, board) {
+  clock.tasks.length = 0;
+  open(page, kit, board, WAIT);
+  board.run();
+  report.same("a wait for input", ["", "", true, true], stands(board));
+  report.same("no slice is set for later", 0, clock.tasks.length);
+  board.type(typed("z"));
+  report.same("a wait that nothing ends", ["z", "It waits, and nothing can wake it.", false, false],
+    stands(board));
+  open(page, kit, board, WAIT);
+  board.run();
+  board.pause();
+  board.type(typed("y"));
+  report.same("typed while it is paused", ["", "", false, false, 1],
+    [...stands(board), board.typed.length]);
+}
+
+async function sleeps(report, page, kit, clock, board) {
+  open(page, kit, board, SLEEP);
+  clock.tasks.length = 0;
+  board.run();
+  const [{ at }] = clock.tasks;
+  report.same("the alarm comes in the host's time", 200, Math.round(at - clock.time));
+  report.same("until then", ["", "", true, false, 2000000],
+    [...stands(board), Number(board.kit.time)]);
+  await clock.next();
+  report.same("behind it", ["", "It was powered off, with status 0.", false, false], stands(board));
+}
+
+function refuses(report, page, board) {
+  const long = new Uint8Array(page.RAM_BYTES - page.TREE_ROOM + 1);
+  report.same("an image that is too long",
+    "It has 33,488,897 bytes, and RAM has 33,488,896.", board.open("long", long));
+  report.same("what was open", "it", board.name);
+  const elf = Uint8Array.from([0x7f, 0x45, 0x4c, 0x46, ...new Array(60).fill(0)]);
+  report.same("no executable", "It is no executable that lies within RAM, from 0x80000000 on.",
+    board.open("elf", elf));
+  const kernel = new Uint8Array(64);
+  report.same("no image", false, page.isBoardImage(kernel));
+  kernel.set(typed("RSC\x05"), 56);
+  report.same("a kernel's image", true, page.isBoardImage(kernel));
+  report.same("an executable below RAM", false, page.isBoardImage(elf));
+  elf[27] = 0x80;
+  report.same("one in RAM", true, page.isBoardImage(elf));
+}
+
+/* The bytes that `rrs board` hands over, as gdb reads them (examples/linux/check). */
+const TREE = { bytes: 1477, sha256: "627a552b5ebd0acc31a3d2d29bfb8d4432361f395dabacde23e0ac361d237904" };
+
+function trees(report, page) {
+  const tree = page.deviceTree(page.RAM_BYTES);
+  report.same("the device tree", TREE, {
+    bytes: tree.length, sha256: createHash("sha256").update(tree).digest("hex"),
+  });
+}
+
+function screens(report, page) {
+  const screen = new page.Screen();
+  report.cases("a screen", [
+    ["a\r\nb", "a\nb"], ["abc\rx", "xbc"], ["ab\b\bx", "xb"], ["a\tb", "a       b"],
+    ["abc\r\x1b[Kx", "x"], ["\x1b[1;32mgreen\x1b[0m", "green"], ["a\x1bcb", "ab"],
+    ["\u00e4\u20ac", "\u00e4\u20ac"], ["a\x07b\x7fc", "abc"],
+  ], (text) => {
+    screen.clear();
+    for (const byte of typed(text)) screen.print([byte]);
+    return screen.text;
+  });
+  screen.clear();
+  screen.print(typed("line\n".repeat(page.LINES_KEPT + 5)));
+  report.same("the lines that are kept", page.LINES_KEPT, screen.lines.length);
+}
+
+function keys(report, page) {
+  const key = (name, held = {}) => ({ key: name, ...held });
+  report.cases("what is typed", [
+    [key("a"), "a"], [key("A", { shiftKey: true }), "A"], [key("Enter"), "\r"],
+    [key("Backspace"), "\x7f"], [key("Tab"), ""], [key("ArrowUp"), "\x1b[A"], [key("Escape"), "\x1b"],
+    [key("c", { ctrlKey: true }), "\x03"], [key("D", { ctrlKey: true }), "\x04"],
+    [key("v", { ctrlKey: true }), ""], [key("[", { ctrlKey: true }), "\x1b"],
+    [key("a", { altKey: true }), ""], [key("a", { metaKey: true }), ""], [key("F5"), ""],
+    [key("Shift", { shiftKey: true }), ""],
+  ], page.typedBy);
+}
+
+async function tryBoards(report, page, kit, clock) {
+  report.begin("boards");
+  clock.time = 0;
+  const board = new page.Board(kit.module);
+  await echoes(report, page, kit, clock, board);
+  await waits(report, page, kit, clock, board);
+  await sleeps(report, page, kit, clock, board);
+  refuses(report, page, board);
+  trees(report, page);
+  screens(report, page);
+  keys(report, page);
+  clock.tasks.length = 0;
+}
+
+module.exports = { tryBoards };
