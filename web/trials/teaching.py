@@ -578,8 +578,10 @@ def go_to_exercise(machine, number):
         if page.ask(f"document.activeElement.hash?.endsWith('exercise={number}')"):
             break
         page.press("Tab", *(["Shift"] if page.ask(f"rrs.lesson.number > {number}") else []))
+    # the links are made anew when this one was followed, also where it leads to where one is
+    page.ask("globalThis.followed = document.activeElement; null")
     page.press("Enter")
-    page.wait(f"rrs.lesson.number === {number}")
+    page.wait(f"!followed.isConnected && rrs.lesson.number === {number}")
 
 
 def write_and_judge(machine, text):
