@@ -47,8 +47,10 @@ class Machine:
             self.page.press(key)
 
     def run(self, key="r", seconds=60):
+        """Runs the program, and waits for its end, and for the verdict of an exercise."""
         self.page.press(key)
-        self.page.wait("!rrs.session.isRunning", seconds)
+        self.page.wait("!rrs.session.isRunning"
+                       " && rrs.lesson.exercise?.checking !== rrs.lesson.turn", seconds)
 
     def says(self, heading, sentence=None):
         same("the heading", heading, self.page.text("#heading"))
