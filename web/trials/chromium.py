@@ -179,6 +179,11 @@ class Page:
         """Waits until the page was drawn: what is shown again has its size then, and its lines."""
         self.ask("new Promise((done) => requestAnimationFrame(() => setTimeout(done)))")
 
+    def wait_ready(self):
+        """Waits until the page has started, and was drawn."""
+        self.wait("document.documentElement.dataset.ready")
+        self.wait_drawn()
+
     def text(self, selector):
         """What stands in an element."""
         return self.ask(f"document.querySelector({json.dumps(selector)}).textContent")

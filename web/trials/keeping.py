@@ -20,7 +20,7 @@ def reopen(machine, address=None):
     """Leaves the page, and opens it again."""
     machine.page.go("about:blank")
     machine.page.go(address or Subject.page.as_uri())
-    machine.page.wait("document.documentElement.dataset.ready")
+    machine.page.wait_ready()
 
 
 def open_keeping(browser):

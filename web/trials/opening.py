@@ -294,7 +294,7 @@ def follow(machine, link):
     """Opens the page anew by a link."""
     machine.page.go("about:blank")
     machine.page.go(link)
-    machine.page.wait("document.documentElement.dataset.ready")
+    machine.page.wait_ready()
 
 
 def links(machine):

@@ -140,7 +140,7 @@ def without_memory64(path):
                     return instantiate.call(WebAssembly, bytes, ...more);
                 };""" + HAS_MEMORY64)
             page.go(Subject.page.as_uri())
-        page.wait("document.documentElement.dataset.ready")
+        page.wait_ready()
         page.press("r")
         page.wait("!rrs.session.isRunning")
         same("what a program prints there", "Hello\n", page.text("#output"))

@@ -190,7 +190,7 @@ def opened(browser, address, keeps=False):
     if not keeps:
         page.send("Page.addScriptToEvaluateOnNewDocument", source=FORGET)
     page.go(address)
-    page.wait("document.documentElement.dataset.ready")
+    page.wait_ready()
     return Machine(page)
 
 
