@@ -85,11 +85,12 @@ class Machine:
 
     def give(self, path):
         """Gives a file to the page, and waits until the page has done with it: it was told of the
-        file, and has emptied the field."""
+        file, has emptied the field, and was drawn. A lesson takes room from what is beside it."""
         self.page.ask("globalThis.given = false; document.querySelector('#file')"
                       ".addEventListener('change', () => { given = true; }, { once: true }); null")
         self.page.give_file("#file", path)
         self.page.wait("given && document.querySelector('#file').files.length === 0")
+        self.page.wait_drawn()
 
     def edit(self, text, base=None):
         """Types a program into the editor, and loads it."""
