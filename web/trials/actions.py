@@ -30,6 +30,7 @@ PREPARE = """(async () => {
     rrs.memory.show("0x2000");
     document.getElementById("address").value = "0x00002000";
     scrollTo(0, 0);
+    await new Promise((done) => requestAnimationFrame(() => setTimeout(done)));
 })()""".replace("SUM", js(PROGRAMS["sum"]))
 
 # the same program in a run that has made one step, and would wait some days for the next
