@@ -207,11 +207,22 @@ class Page:
         self.send("Input.dispatchMouseEvent", type=kind, x=where[0], y=where[1], **more)
 
     def click(self, selector, count=1):
-        """Clicks the middle of an element, as a mouse does."""
-        self.click_at(self.middle(selector), count)
+        """Clicks the middle of an element, as a mouse does, once it stays where it is: the page is
+        drawn as the mouse moves, and the element may lie elsewhere then."""
+        where = self.middle(selector)
+        for _ in range(100):
+            self.mouse("mouseMoved", where)
+            before, where = where, self.middle(selector)
+            if where == before:
+                return self.click_there(where, count)
+        raise Failed(f"{selector} can't be clicked: it does not stay where it is")
 
     def click_at(self, where, count=1):
         self.mouse("mouseMoved", where)
+        self.click_there(where, count)
+
+    def click_there(self, where, count):
+        """Clicks where the mouse is."""
         for number in range(1, count + 1):
             for kind in ("mousePressed", "mouseReleased"):
                 self.mouse(kind, where, button="left", clickCount=number)
