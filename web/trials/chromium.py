@@ -100,10 +100,13 @@ class Browser:
     def patience(holds, seconds=30):
         """Waits until a function answers that something holds."""
         until = time.monotonic() + seconds
+        is_late = False
         while not holds():
-            if time.monotonic() > until:
+            if is_late:
                 raise Failed(f"in {seconds} s this did not come to hold: {holds}")
             time.sleep(0.01)
+            # it is asked once more behind the limit: this process may have had to wait
+            is_late = time.monotonic() > until
 
     def open(self, address, width=1280, height=900, dark=False):
         """Opens a page, and returns it when it has loaded."""
@@ -170,10 +173,13 @@ class Page:
     def wait(self, expression, seconds=30):
         """Waits until an expression holds."""
         until = time.monotonic() + seconds
+        is_late = False
         while not self.ask(expression):
-            if time.monotonic() > until:
+            if is_late:
                 raise Failed(f"in {seconds} s this did not come to hold: {expression}")
             time.sleep(0.01)
+            # it is asked once more behind the limit: this process may have had to wait
+            is_late = time.monotonic() > until
 
     def wait_drawn(self):
         """Waits until the page was drawn: what is shown again has its size then, and its lines."""

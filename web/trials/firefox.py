@@ -109,10 +109,13 @@ class Firefox:
     def wait(self, expression, seconds=30):
         """Waits until an expression holds."""
         until = time.monotonic() + seconds
+        is_late = False
         while not self.ask(expression):
-            if time.monotonic() > until:
+            if is_late:
                 raise Failed(f"in {seconds} s this did not come to hold in Firefox: {expression}")
             time.sleep(0.02)
+            # it is asked once more behind the limit: this process may have had to wait
+            is_late = time.monotonic() > until
 
     def press(self, *keys):
         """Presses keys one after another, as a keyboard does."""

@@ -186,7 +186,7 @@ def panel(browser):
             return top >= 0 && bottom <= innerHeight;
         }})()""") for part in ("#exercise-about", "#registers", "#text"))])
     page.replace("#text", "main:\n  foo a0\n")
-    page.wait(f"{MISTAKES}.length === 1", 5)
+    page.wait(f"{MISTAKES}.length === 1")
     page.press("Enter", "Ctrl")
     same("what is marked, and the program of before", [["2"], "1 step", "text"], [
         page.ask("[...document.querySelectorAll('#numbers b')].map((b) => b.textContent)"),

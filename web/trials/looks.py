@@ -170,7 +170,7 @@ def focus(machine):
     page.ask("(() => { document.activeElement.blur(); getSelection().removeAllRanges(); })()")
     # the header, and not the buttons that stay above where the page is scrolled
     page.ask("scrollTo(0, 0)")
-    page.wait("document.elementFromPoint(3, 3).closest('header') !== null", 5)
+    page.wait("document.elementFromPoint(3, 3).closest('header') !== null")
     page.click_at([3, 3])
     same("the order of the focus", FOCUS_ORDER, tab_order(page))
     page.ask("$('more').open = true; $('more').firstElementChild.focus()")
@@ -234,7 +234,7 @@ def show_all(machine):
     yield "mistake"
     page.choose("#language", "assembly")
     page.replace("#text", COLOURED)
-    page.wait("document.querySelectorAll('#mistakes button').length === 1", 5)
+    page.wait("document.querySelectorAll('#mistakes button').length === 1")
     machine.open_settings()
     yield "source"
     machine.escape()
@@ -386,8 +386,8 @@ def boxes(machine):
         page.resize(width, height)
         page.ask("scrollTo(0, 0)")
         page.wait("$('memory').rows[0].cells.length - 2 ==="
-                  " ($('memory').parentElement.clientWidth < 440 ? 2 : 4)", 5)
-        page.wait("['.line.stop', '.line.pc'].every((line) => document.querySelector(line))", 5)
+                  " ($('memory').parentElement.clientWidth < 440 ? 2 : 4)")
+        page.wait("['.line.stop', '.line.pc'].every((line) => document.querySelector(line))")
         for dark in (True, False):
             page.prefer(dark)
             same(f"the marks at {width}, {'dark' if dark else 'light'}", WANTED_MARKS,

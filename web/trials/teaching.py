@@ -59,7 +59,7 @@ def while_one_types(machine):
     machine.choose("three")
     type_source(machine, "nop\nmv a0, 5\n  addi a0, a0, 5000\nj nowhere\n")
     # as many mistakes has the text that was there before
-    page.wait(f"{MISTAKES}.length === 3 && {MISTAKES}[2].endsWith('nowhere')", 5)
+    page.wait(f"{MISTAKES}.length === 3 && {MISTAKES}[2].endsWith('nowhere')")
     same("the mistakes", [
         "Line 2: a register is wanted here: li takes a number",
         "Line 3: value out of range: addi takes -2048 to 2047; li puts any number into a register",
@@ -78,18 +78,18 @@ def while_one_types(machine):
          page.text("#mistake"))
     same("what was open", "lui sp, 0x1234b000", machine.line(0)[2])
     page.replace("#text", "nop")
-    page.wait(f"{MISTAKES}.length === 0", 5)
+    page.wait(f"{MISTAKES}.length === 0")
     same("the marks", 0, page.ask("document.querySelectorAll('#numbers b, .is-wrong').length"))
     page.choose("#language", "words")
-    page.wait(f"{MISTAKES}.length === 1", 5)
+    page.wait(f"{MISTAKES}.length === 1")
     same("as words", ['Line 1: "nop" is no word of 1 to 8 hexadecimal digits'], page.ask(MISTAKES))
     page.choose("#language", "assembly")
     page.replace("#text", "j 0x10")
-    page.wait(f"{MISTAKES}.length === 0", 5)
+    page.wait(f"{MISTAKES}.length === 0")
     machine.open_settings()
     page.replace("#base", "80000000")
     page.press("Tab")
-    page.wait(f"{MISTAKES}.length === 1", 5)
+    page.wait(f"{MISTAKES}.length === 1")
     same("where it is to lie", True, page.ask(f"{MISTAKES}[0].startsWith('Line 1: ')"))
     page.replace("#base", "0")
     page.press("Tab")
@@ -102,14 +102,14 @@ def while_one_types(machine):
     same("the text under the colours", True, page.ask(
         "document.getElementById('colours').textContent === $('text').value + '\\n'"))
     page.put("#text", "nop\n" * 59 + "foo #" + "-" * 400)
-    page.wait(f"{MISTAKES}.length === 1", 5)
+    page.wait(f"{MISTAKES}.length === 1")
     page.ask("$('text').scrollTop = 300; $('text').scrollLeft = 90;"
              " $('text').dispatchEvent(new Event('scroll')); null")
     same("the numbers and the colours scroll with the text", [300, 300, 300, 90, 90], page.ask(
         "[...['text', 'numbers', 'colours'].map((id) => $(id).scrollTop),"
         " ...['text', 'colours'].map((id) => $(id).scrollLeft)]"))
     page.put("#text", "nop\n" * 49 + "foo\n" + "nop\n" * 49)
-    page.wait(f"{MISTAKES}.length === 1 && $('mistakes').textContent.includes('Line 50')", 5)
+    page.wait(f"{MISTAKES}.length === 1 && $('mistakes').textContent.includes('Line 50')")
     page.ask("$('text').scrollTop = 0; null")
     page.click("#mistakes li button")
     same("whether line 50 is in view", ["foo", True], page.ask("""(() => {
@@ -240,10 +240,10 @@ def language_of_a_text(machine):
     page.ask("rrs.editor.read()")
     same("of words", "words", page.ask(LANGUAGE))
     page.replace("#text", "main: li a0, 5\n")
-    page.wait(f"{LANGUAGE} === 'assembly'", 5)
+    page.wait(f"{LANGUAGE} === 'assembly'")
     same("its mistakes", [], page.ask(MISTAKES))
     page.choose("#language", "words")
-    page.wait(f"{MISTAKES}.length === 1", 5)
+    page.wait(f"{MISTAKES}.length === 1")
     same("where words are chosen", "words", page.ask(LANGUAGE))
     machine.escape()
     machine.choose("three")
@@ -412,7 +412,7 @@ def drafts(machine):
         machine.choose_preset("1")
         machine.says("To be edited", "Line 1: no such instruction or directive: foo")
         machine.keys("e")
-        page.wait(f"{MISTAKES}.length === 1", 5)
+        page.wait(f"{MISTAKES}.length === 1")
         page.replace("#text", page.ask("$('text').value.replace('foo', 'li')"))
         page.click("#take")
         machine.wait_closed()

@@ -117,7 +117,7 @@ class Machine:
         drawn next."""
         self.page.wait("document.querySelector('dialog[open]') === null"
                        " && !document.activeElement.closest('dialog, #editor')"
-                       " && document.getElementById('editor').hidden", 5)
+                       " && document.getElementById('editor').hidden")
         self.leave_fields()
         self.page.wait_drawn()
 
