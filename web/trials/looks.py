@@ -234,7 +234,8 @@ def show_all(machine):
     yield "mistake"
     page.choose("#language", "assembly")
     page.replace("#text", COLOURED)
-    page.wait("document.querySelectorAll('#mistakes button').length === 1")
+    # as many mistakes has the text that was there before
+    page.wait("$('mistakes').textContent.includes('Line 3')")
     machine.open_settings()
     yield "source"
     machine.escape()

@@ -102,7 +102,7 @@ def while_one_types(machine):
     same("the text under the colours", True, page.ask(
         "document.getElementById('colours').textContent === $('text').value + '\\n'"))
     page.put("#text", "nop\n" * 59 + "foo #" + "-" * 400)
-    page.wait(f"{MISTAKES}.length === 1")
+    page.wait("$('mistakes').textContent.includes('Line 60')")
     page.ask("$('text').scrollTop = 300; $('text').scrollLeft = 90;"
              " $('text').dispatchEvent(new Event('scroll')); null")
     same("the numbers and the colours scroll with the text", [300, 300, 300, 90, 90], page.ask(
