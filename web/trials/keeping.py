@@ -126,7 +126,7 @@ def cleared(browser):
     page = machine.page
     page.ask("localStorage['other.page'] = 'stays'; null")
     machine.edit("li a0, 5")
-    page.wait(KEYS)
+    page.wait(f"{KEYS} && {KEPT}.length === 1")
     same("what is said of it", True, page.text("#kept-note").startswith("Your programs"))
     page.click("#more summary")
     page.click("#clear")
