@@ -17,7 +17,7 @@ import tempfile
 import threading
 
 from trials import chromium, firefox
-from trials.report import same
+from trials.report import Differs, same
 from trials.running import three_words
 from trials.view import WEB, Subject, opened
 
@@ -314,6 +314,8 @@ def told(desk):
 
 def quiet(desks):
     """no script failed, and nothing was asked of a network"""
+    if any(desk is False for desk in desks):
+        raise Differs("a process has ended before it told of its browser")
     had_browsers = [desk for desk in desks if desk is not None]
     wrong, asked, stored = zip(*had_browsers)
     same("scripts that failed", [], sum(wrong, []))

@@ -92,12 +92,12 @@ class Processes:
 
     def take(self, pipe):
         """What came of a process: the number of its trial, and the report, which is None where the
-        process has ended. Where it had no trial left, what it tells of its desk."""
+        process has ended. Where it had no trial left, what it tells of its desk, or False."""
         number = self.has.pop(pipe)
         try:
             got = pipe.recv()
         except EOFError:
-            return number, None
+            return number, None if number is not None else False
         if number is not None:
             self.give(pipe)
         return number, got
