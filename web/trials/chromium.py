@@ -108,6 +108,10 @@ class Browser:
             # it is asked once more behind the limit: this process may have had to wait
             is_late = time.monotonic() > until
 
+    def wait_saved(self, path):
+        """Waits until a file is saved. The browser puts an empty one in its place before."""
+        self.patience(lambda: path.exists() and path.stat().st_size > 0)
+
     def open(self, address, width=1280, height=900, dark=False):
         """Opens a page, and returns it when it has loaded."""
         target = self.send("Target.createTarget", url="about:blank")["targetId"]

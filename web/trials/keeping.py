@@ -160,7 +160,7 @@ def saved(browser):
         page.press("s", "Ctrl")
         path = pathlib.Path(name) / "Hello.s"
         page.wait("$('unsaved').textContent === ''")
-        page.browser.patience(path.exists)
+        page.browser.wait_saved(path)
         same("the file", PROGRAM, path.read_text())
         reopen(machine)
         same("whether the page asks then", False, was_asked(machine))
@@ -168,7 +168,7 @@ def saved(browser):
         page.ask("rrs.openExample('words')")
         machine.leave_fields()
         machine.keys("W")
-        page.browser.patience((pathlib.Path(name) / "Three-words-of-hexadecimal-digits.hex").exists)
+        page.browser.wait_saved(pathlib.Path(name) / "Three-words-of-hexadecimal-digits.hex")
     page.send("Page.close")
 
 

@@ -606,7 +606,7 @@ def hand_in(machine, folder, name=HANDED_IN_NAME):
     page.wait("$('shared').open")
     link = page.ask("$('link').value")
     page.press("Enter")
-    page.browser.patience(path.exists)
+    page.browser.wait_saved(path)
     page.wait("!$('shared').open")
     return path, link
 
@@ -698,7 +698,7 @@ def first_lesson(machine):
         machine.keys("?")
         page.click("#first-lesson")
         path = pathlib.Path(name) / "lesson.txt"
-        page.browser.patience(path.exists)
+        page.browser.wait_saved(path)
         machine.escape()
         machine.give(path)
         page.wait("$('lesson-title').textContent === 'My lesson'")
