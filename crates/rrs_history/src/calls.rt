@@ -208,6 +208,53 @@ fn serve_noted<M: Memory, E: Environment>(
     answer
 }
 
+/// The change with which a call begins of a hart that stands here. It leads to the state that it is
+/// in.
+fn begun(hart: &HartState) -> Change
+    ensures same { (bytes : ℕ → Option ℕ) (writable : ℕ → Bool)
+        → undone result (state_of hart.now bytes writable) ≡ state_of hart.now bytes writable }
+    ensures starts { IsTrue result.starts }
+{
+    Change {
+        last: hart.last_register_write.unwrap_or(0),
+        pc: hart.pc,
+        value: 0,
+        address: 0,
+        bytes: 0,
+        stored: None,
+        register: 0,
+        had_last: hart.last_register_write.is_some(),
+        starts: true,
+        of_call: true,
+    }
+}
+
+/// Has the environment serve a hart where it stands, whatever the word there is, and keeps what
+/// that changed as a call.
+///
+/// It is for an instruction at which a step faulted and that the environment carries out. The
+/// answer is that of the environment: with `None` the hart goes on behind the word, and with a
+/// status at the pc that the environment left (`served`). The history then leads back to the state
+/// before, and tells that it was a call.
+pub fn serve_recorded<M: Memory, E: Environment>(
+    executor: &mut InstructionExecutor<M>,
+    environment: &mut E,
+    history: &mut History,
+) -> Option<u32>
+    ensures served { MakesSome M.reads M.writes (λ noted. ServesCall E.serves
+        environment.old (state_in M.bytes M.writable executor.old) result
+        executor.old.hart_state.now.pc
+        environment.new (state_in M.bytes M.writable executor.new) noted
+        × RemembersCall true history.old (state_in M.bytes M.writable executor.old)
+        history.new (state_in M.bytes M.writable executor.new) (length noted))
+        executor.old.mem.now executor.new.mem.now }
+    ensures rest { KeepsTheRest M.layout executor.old executor.new }
+{
+    let change = begun(executor.hart_state);
+    let pc = executor.hart_state.pc;
+    serve_noted(executor, environment, history, change, pc)
+}
+
 /// Makes a step, has an `ecall` served by the environment, and keeps what either changed.
 ///
 /// The answer is `None` where the program goes on, after the `ecall` as in `run_served`, or the
