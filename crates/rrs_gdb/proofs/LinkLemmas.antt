@@ -1,5 +1,5 @@
 -- What is read of a packet, byte by byte, and what a link exchanges.
-use Rattle.std.proofs.Common.{◌≡◌, ◌≢◌, ℕ, zero, suc, ◌+◌, ◌<◌, ◌≤◌, ◌==◌, if◌then◌else◌, Bool, true, false, codes, is_some, List, [], ◌∷◌, ◌++◌, length, take, nat_lt, Option, None, Some, ◌⊎◌, refl, sym, subst, ap, ◌∙◌, inl, inr, append_assoc, append-nil, lit<, arith}
+use Rattle.std.proofs.Common.{◌≡◌, ◌≢◌, ℕ, ◌<◌, ◌≤◌, ◌==◌, if◌then◌else◌, Bool, true, false, codes, is_some, List, [], ◌∷◌, ◌++◌, length, take, nat_lt, Option, None, Some, ◌⊎◌, refl, sym, subst, ap, ◌∙◌, inl, inr, append_assoc, append-nil, lit<, arith}
 use Rattle.std.proofs.lemmas.List.{take_all, take-append-le, length-take, length-append}
 use Rattle.std.proofs.lemmas.Bool.Decides.{nat_tests}
 use Rattle.std.specs.Io.KnownBytes.{Appends, Consumes, Keeps}
@@ -7,7 +7,7 @@ use Rattle.std.proofs.KnownBytes.{Consumes-kept, Consumes-nil, Consumes-trans, K
 use Rattle.rrs_gdb.specs.declared.link.Frame.{Frame}
 use Rattle.rrs_gdb.specs.declared.link.Link.{Link}
 use Rattle.rrs_gdb.specs.declared.link.Received.{Received}
-use Rattle.rrs_gdb.specs.Packets.{before, behind, since_last, AskedAgain, ComesTo, IsFrame, IsMeaning, Receives, SentAgain, Skipped, Taken, Waits}
+use Rattle.rrs_gdb.specs.Packets.{before, behind, since_last, AskedAgain, ComesTo, IsFrame, IsMeaning, SentAgain, Skipped, Taken, Waits}
 use Rattle.rrs_gdb.specs.Shown.{Ends, Exchanges, Requests}
 use Rattle.rrs_gdb.proofs.OutputLemmas.{appends_both, appends_none}
 

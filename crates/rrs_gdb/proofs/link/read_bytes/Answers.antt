@@ -1,6 +1,5 @@
 -- Byte by byte.
-use Rattle.std.proofs.Common.{◌≡◌, ◌≢◌, ◌<◌, ◌≤◌, ◌∷◌, [], ℕ, subst, refl, arith, rules}
-use Rattle.std.specs.Io.KnownBytes.{Consumes}
+use Rattle.std.proofs.Common.{rules}
 use Rattle.rrs_gdb.proofs.LinkLemmas.{has_read_dollar, has_read_kept, has_read_long, has_read_whole}
 use Rattle.rrs_gdb.proofs.link.read_bytes.Goals as goal
 use Rattle.rrs_gdb.proofs.link.read_bytes.Goals.{in-36, in_default-byte+in_ok-push-in_default-byte, in_default-2}

@@ -1,5 +1,5 @@
 -- A packet is asked, or one that is no good is answered, or the input ends.
-use Rattle.std.proofs.Common.{◌≡◌, None, Some, refl, arith}
+use Rattle.std.proofs.Common.{None, Some, refl, arith}
 use Rattle.rrs_gdb.specs.Shown.{Asks, Ends, Refuses}
 use Rattle.rrs_gdb.proofs.LinkLemmas.{requests_none}
 use Rattle.rrs_gdb.proofs.session.next_payload.Goals as goal

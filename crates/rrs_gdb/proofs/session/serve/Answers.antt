@@ -1,5 +1,5 @@
 -- The stop is told, and a packet has its turn.
-use Rattle.std.proofs.Common.{◌≡◌, refl, sym, subst}
+use Rattle.std.proofs.Common.{subst}
 use Rattle.rrs_lib.specs.Executor.{state_in}
 use Rattle.rrs_gdb.specs.declared.state.SessionState.{SessionState}
 use Rattle.rrs_gdb.specs.declared.session.SessionEnd.TheVariants as Ending

@@ -1,5 +1,4 @@
 -- How the session goes from here on is how it goes.
-use Rattle.std.proofs.Common.{◌≡◌, Some}
 use Rattle.rrs_lib.specs.Executor.{state_in}
 use Rattle.rrs_gdb.specs.declared.link.Link.{Link}
 use Rattle.rrs_gdb.specs.declared.session.SessionEnd.{SessionEnd}

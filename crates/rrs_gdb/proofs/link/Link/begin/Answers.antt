@@ -1,4 +1,4 @@
-use Rattle.std.proofs.Common.{refl, inl, inr, sym, subst, rules}
+use Rattle.std.proofs.Common.{refl, inl, inr, rules}
 use Rattle.rrs_gdb.proofs.LinkLemmas.{exchanges_byte}
 use Rattle.rrs_gdb.proofs.link.Link.begin.Goals as goal
 

@@ -1,5 +1,5 @@
 -- A byte, and what comes of it.
-use Rattle.std.proofs.Common.{◌≡◌, ◌≢◌, refl, sym, ap, subst, ◌∙◌, None, Some, arith, rules}
+use Rattle.std.proofs.Common.{refl, ap, ◌∙◌, None, Some, arith}
 use Rattle.std.proofs.lemmas.Option.{same_Some}
 use Rattle.rrs_gdb.proofs.LinkLemmas.{exchanges_none, exchanges_both, exchanges_waits}
 use Rattle.rrs_gdb.proofs.link.Link.receive.Goals as goal
