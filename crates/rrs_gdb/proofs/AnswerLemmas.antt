@@ -650,6 +650,7 @@ kept_both old new settings breaks = record {
   watches_kept = breaks.watches_kept;
   settings_kept = settings.settings_kept;
   history_kept = settings.history_kept;
+  reserved_kept = settings.reserved_kept;
 }
 
 pub means_breaks_ok : {A F : Type 0} (r : Result A F) (payload : List ℕ) (m n : Moment) → HasSubject payload Breaks

@@ -1,5 +1,5 @@
 -- What packets leave as it was, and the calls between the runs of a program that goes on.
-use Rattle.std.proofs.Common.{◌≡◌, ◌≢◌, ◌⊎◌, ℕ, zero, suc, List, [], ◌∷◌, ◌++◌, Bool, true, false, Contains, Option, Some, None, Result, Ok, Err, OnOk, IfNone, MatchOption, ◌+◌, ◌-◌, ◌<◌, ◌≤◌, drop, length, take, take_all, slice_index, refl, sym, subst, ap, ◌∙◌, inl, inr, arith}
+use Rattle.std.proofs.Common.{◌≡◌, ◌≢◌, ◌⊎◌, ℕ, zero, suc, List, [], ◌∷◌, ◌++◌, Bool, true, false, Contains, Option, Some, None, Result, Ok, Err, OnOk, IfOk, IfNone, MatchOption, ◌+◌, ◌-◌, ◌<◌, ◌≤◌, drop, length, take, take_all, slice_index, refl, sym, subst, ap, ◌∙◌, inl, inr, arith}
 use Rattle.std.specs.Bool.{OnTrue, OnFalse}
 use Rattle.std.proofs.lemmas.Bool.{OnTrue_from}
 use Rattle.std.proofs.lemmas.List.{append_cancel_left, length-drop}
@@ -9,7 +9,7 @@ use Rattle.rrs_lib.specs.Accesses.{Access}
 use Rattle.rrs_lib.specs.Machine.{State, with_pc}
 use Rattle.rrs_linux.specs.Recording.{Recording, Records}
 use Rattle.rrs_history.specs.declared.history.History.{History}
-use Rattle.rrs_history.specs.Histories.{room}
+use Rattle.rrs_history.specs.Histories.{changes, past, room}
 use Rattle.rrs_history.specs.Calls.{IsServedStep, RemembersCall}
 use Rattle.rrs_gdb.specs.declared.breaks.Watch.{Watch}
 use Rattle.rrs_gdb.specs.declared.forward.ForwardReason.{ForwardReason}
@@ -17,15 +17,16 @@ use Rattle.rrs_gdb.specs.declared.forward.ForwardReason.TheVariants.{AtStop, Tou
 use Rattle.rrs_gdb.specs.declared.session.Going.{Going}
 use Rattle.rrs_gdb.specs.declared.session.Going.TheVariants.{Step, Proceed, Killed}
 use Rattle.rrs_gdb.specs.Shown.{stop_text}
-use Rattle.rrs_gdb.specs.Sessions.{letter, IsError, PlacesKept, Asked, asked_by, Around, forgotten, stopped_at, is_call, ends_at_call, call_number, OutputTaken, PassesBefore, StopsBehind, CallServed, CallMade, CallStops, Behind, Most, one_step, up_to, still, Ran, GoesOn, Runs, GoesBy, GoesOnOrStays, GoesOnFrom, GoesOnUnless, KilledUnless, HasAction, HasLetter, Resumes, Acts, first_action}
+use Rattle.rrs_gdb.specs.Sessions.{letter, IsError, PlacesKept, Asked, asked_by, Around, forgotten, stopped_at, is_call, ends_by_fault, call_number, CarriedOn, FaultStops, StopsAt, AtCall, AtFault, Passes, ByCall, OutputTaken, PassesBefore, StopsBehind, CallServed, CallMade, CallStops, Behind, Most, one_step, up_to, still, Ran, GoesOn, Runs, GoesBy, GoesOnOrStays, GoesOnFrom, GoesOnUnless, KilledUnless, HasAction, HasLetter, Resumes, Acts, first_action}
 use Rattle.std.proofs.lemmas.List.Elements.{All-nil}
 use Rattle.rrs_gdb.specs.declared.back.BackEnd.{BackEnd}
 use Rattle.rrs_gdb.specs.declared.back.BackEnd.TheVariants as Back
 use Rattle.rrs_gdb.specs.Breaks.{GoesForward, GoesBack, IsPassed, KeepsSteps}
+use Rattle.rrs_gdb.specs.Carrying.{Carried, CarriedTouchesNone, CarriedTouchesOne, MadeAgain}
 use Rattle.rrs_gdb.specs.declared.state.SessionState.{SessionState}
 use Rattle.rrs_gdb.specs.declared.state.Stop.{Stop}
-use Rattle.rrs_gdb.specs.declared.state.Stop.TheVariants.{Signal}
-use Rattle.rrs_gdb.specs.Sessions.{CallTakenBack, CallsBack, GoesOnBack, RunsBack, Signals, BySignal, HasNoSignal, IsSignal, signalled}
+use Rattle.rrs_gdb.specs.declared.state.Stop.TheVariants.{Signal, Touched}
+use Rattle.rrs_gdb.specs.Sessions.{CallTakenBack, CallsBack, TouchesBack, NoneTouchedBehind, GoesOnBack, RunsBack, Signals, BySignal, HasNoSignal, IsSignal, signalled}
 use Rattle.rrs_gdb.specs.Packets.{IsNumber, number, before, behind}
 use Rattle.rrs_gdb.proofs.BreakLemmas.{none_stepped, none_kept, kept_whole}
 use Rattle.rrs_gdb.proofs.WatchLemmas.{none_made}
@@ -91,16 +92,26 @@ still_some (suc n) told some = refl
 
 -- the steps of a run are counted, and where the program stops is set
 pub ran : (steps : ℕ) (a : Around) (s : State) (mid b : Around) (t : State) (at : Stop)
-    → mid.environment ≡ a.environment → mid.entered ≡ a.entered → mid.told_exit ≡ a.told_exit
+    → mid.environment ≡ a.environment → mid.reserved ≡ a.reserved
+    → mid.entered ≡ a.entered → mid.told_exit ≡ a.told_exit
     → (1 ≤ room a.history → KeepsSteps steps a.history s mid.history t)
     → b ≡ record mid { entered = still steps mid.entered; told_exit = still steps mid.told_exit }
     → Ran steps a s (stopped_at b at) t
-ran steps a s mid b t at same entered told kept is = record {
+ran steps a s mid b t at same reserved entered told kept is = record {
   environment_kept = ap (λ (x : Around). x.environment) is ∙ same;
+  reserved_kept = ap (λ (x : Around). x.reserved) is ∙ reserved;
   kept = λ some. subst (λ (h : History). KeepsSteps steps a.history s h t) (sym (ap (λ (x : Around). x.history) is)) (kept some);
   entered_kept = ap (λ (x : Around). x.entered) is ∙ ap (still steps) entered;
   told_kept = ap (λ (x : Around). x.told_exit) is ∙ ap (still steps) told;
 }
+
+-- a run that ended by no exception
+pub no_fault : (reason : ForwardReason) → ((fault : InstructionException) → reason ≡ Fault fault → ⊥)
+    → ends_by_fault reason ≡ false
+no_fault AtStop other = refl
+no_fault (Touches watch) other = refl
+no_fault Limit other = refl
+no_fault (Fault fault) other = absurd (other fault refl)
 
 -- nothing is left of a limit
 pub at_limit : (asked : Asked) (at : Stop) (limit : ℕ) (a : Around) (s : State) → limit ≡ 0
@@ -109,6 +120,7 @@ at_limit asked at limit a s none =
     Runs limit a s 0 Limit (((sym none, refl), none_stepped asked.stops s), none_made asked.watches s) refl
     (record {
       environment_kept = refl;
+      reserved_kept = refl;
       kept = λ some. kept_whole 0 a.history a.history s s (none_kept a.history s);
       entered_kept = refl;
       told_kept = refl;
@@ -122,28 +134,22 @@ same_places stops stops' watches watches' limit s steps reason t same same' run 
     subst (λ (ws : List Watch). GoesForward stops ws limit s steps reason t) same'
     (subst (λ (xs : List ℕ). GoesForward xs watches' limit s steps reason t) same run)
 
-call_is : (fault : InstructionException) → is_call fault ≡ true → (pc : ℕ) × (Fault fault ≡ Fault (EnvironmentCall pc))
-call_is (EnvironmentCall pc) is = (pc, refl)
-call_is (IllegalInstruction pc word) is = absurd (cc)
-call_is (Breakpoint pc) is = absurd (cc)
-call_is (AlignmentFault x) is = absurd (cc)
-call_is (FetchError x) is = absurd (cc)
-call_is (LoadAccessFault x) is = absurd (cc)
-call_is (StoreAccessFault x) is = absurd (cc)
+-- an exception that is a call
+pub call_at : (fault : InstructionException) → is_call fault ≡ true → (pc : ℕ) × (fault ≡ EnvironmentCall pc)
+call_at (EnvironmentCall pc) is = (pc, refl)
+call_at (IllegalInstruction pc word) is = absurd (cc)
+call_at (Breakpoint pc) is = absurd (cc)
+call_at (AlignmentFault x) is = absurd (cc)
+call_at (FetchError x) is = absurd (cc)
+call_at (LoadAccessFault x) is = absurd (cc)
+call_at (StoreAccessFault x) is = absurd (cc)
 
-pub call_at : (reason : ForwardReason) → ends_at_call reason ≡ true
-    → (pc : ℕ) × (reason ≡ Fault (EnvironmentCall pc))
-call_at AtStop is = absurd (cc)
-call_at (Touches watch) is = absurd (cc)
-call_at Limit is = absurd (cc)
-call_at (Fault fault) is = call_is fault is
-
--- a run to a call
-pub to_call : (stops stops' : List ℕ) (watches watches' : List Watch) (limit : ℕ) (s : State) (steps : ℕ)
-    (reason : ForwardReason) (pc : ℕ) (t : State) → stops' ≡ stops → watches' ≡ watches
-    → reason ≡ Fault (EnvironmentCall pc) → GoesForward stops' watches' limit s steps reason t
-    → GoesForward stops watches limit s steps (Fault (EnvironmentCall pc)) t
-to_call stops stops' watches watches' limit s steps reason pc t same same' is run =
+-- a run to an exception
+pub to_fault : (stops stops' : List ℕ) (watches watches' : List Watch) (limit : ℕ) (s : State) (steps : ℕ)
+    (reason : ForwardReason) (fault : InstructionException) (t : State) → stops' ≡ stops → watches' ≡ watches
+    → reason ≡ Fault fault → GoesForward stops' watches' limit s steps reason t
+    → GoesForward stops watches limit s steps (Fault fault) t
+to_fault stops stops' watches watches' limit s steps reason fault t same same' is run =
     subst (λ (r : ForwardReason). GoesForward stops watches limit s steps r t) is
     (same_places stops stops' watches watches' limit s steps reason t same same' run)
 
@@ -151,13 +157,14 @@ to_call stops stops' watches watches' limit s steps reason pc t same same' is ru
 pub call_served : (a b : Around) (m t : State) (end : Option ℕ) (is_call : Bool) (accesses : List Access)
     (after : Recording) (history : History) → IsServedStep Records is_call a.environment m (Ok end) after t accesses
     → RemembersCall is_call a.history m history t (length accesses) → OutputTaken after b.environment
-    → b.history ≡ history → CallServed a m end b t
-call_served a b m t end is_call accesses after history served remembers taken same = record {
+    → b.reserved ≡ a.reserved → b.history ≡ history → CallServed a m end b t
+call_served a b m t end is_call accesses after history served remembers taken reserved same = record {
   after = after;
   is_call = is_call;
   accesses = accesses;
   served = served;
   output_taken = taken;
+  reserved_kept = reserved;
   remembered = subst (λ (h : History). RemembersCall is_call a.history m h t (length accesses)) (sym same) remembers;
 }
 
@@ -193,6 +200,49 @@ call_made asked a b m t end number None none passes served served' same behind e
 call_made asked a b m t end number (Some at) none passes served served' same behind entered told =
     Behind passes (subst (λ (o : Option ℕ). CallServed a m o (stopped_at b at) t) none (served at))
     (subst (λ (n : ℕ). StopsBehind a.entered asked.stops n t.pc at) same behind)
+
+-- the instruction of a fault is carried out
+pub carried_on : (asked : Asked) (fault : InstructionException) (a mid b : Around) (m t : State) (at : Stop)
+    → CarriedTouchesNone asked.watches a.reserved m
+    → Carried fault a.reserved a.history m (Ok tt) mid.reserved mid.history t
+    → mid.environment ≡ a.environment
+    → b ≡ record mid { entered = still 1 mid.entered; told_exit = still 1 mid.told_exit }
+    → CarriedOn asked fault a m (stopped_at b at) t
+carried_on asked fault a mid b m t at none carried same is = record {
+  touches_none = none;
+  carried = subst (λ (x : Around). Carried fault a.reserved a.history m (Ok tt) x.reserved x.history t) (sym is) carried;
+  environment_kept = ap (λ (x : Around). x.environment) is ∙ same;
+  not_entered = ap (λ (x : Around). x.entered) is;
+  not_told = ap (λ (x : Around). x.told_exit) is;
+}
+
+-- a call passes, or stops
+pub passes_call : {F : Type 0} (answer : Result (Option Stop) F) (asked : Asked) (fault : InstructionException)
+    (a b : Around) (m t : State) (pc : ℕ) → fault ≡ EnvironmentCall pc
+    → IfOk answer (λ (stop : Option Stop). MatchOption stop (CallMade asked a m b t)
+    (λ (at : Stop). CallStops asked a m (stopped_at b at) t))
+    → IfOk answer (λ (stop : Option Stop). MatchOption stop (Passes asked fault a m b t)
+    (λ (at : Stop). StopsAt asked fault a m (stopped_at b at) t))
+passes_call (Ok None) asked fault a b m t pc is made = ByCall pc is made
+passes_call (Ok (Some at)) asked fault a b m t pc is made = AtCall pc is made
+passes_call (Err f) asked fault a b m t pc is made = tt
+
+-- and so does another exception
+pub passes_fault : (stop : Option Stop) (asked : Asked) (fault : InstructionException)
+    (a b : Around) (m t : State) → is_call fault ≡ false
+    → MatchOption stop (Passes asked fault a m b t) (λ (at : Stop). FaultStops asked fault a m (stopped_at b at) t)
+    → MatchOption stop (Passes asked fault a m b t) (λ (at : Stop). StopsAt asked fault a m (stopped_at b at) t)
+passes_fault None asked fault a b m t other holds = holds
+passes_fault (Some at) asked fault a b m t other holds = AtFault other holds
+
+-- the same of what was asked for before
+pub passes_same : (stop : Option Stop) (asked asked' : Asked) (fault : InstructionException)
+    (a b : Around) (m t : State) → asked' ≡ asked
+    → MatchOption stop (Passes asked' fault a m b t) (λ (at : Stop). StopsAt asked' fault a m (stopped_at b at) t)
+    → MatchOption stop (Passes asked fault a m b t) (λ (at : Stop). StopsAt asked fault a m (stopped_at b at) t)
+passes_same stop asked asked' fault a b m t same holds =
+    subst (λ (x : Asked). MatchOption stop (Passes x fault a m b t)
+    (λ (at : Stop). StopsAt x fault a m (stopped_at b at) t)) same holds
 
 -- the pc may be another one, and then the history is forgotten
 abbrev pub BeginsAt : Around → State → Around → State → Type 0
@@ -480,13 +530,14 @@ none_gone stops watches limit e s before steps = record {
 pub call_gone : (stops : List ℕ) (watches : List Watch) (limit : ℕ) (e : Recording) (s : State) (before : List State)
     (steps left : ℕ) (d : Recording) (u : State) (between : List State) (steps' gone : ℕ) (d' : Recording) (u' : State)
     (between' : List State) → BackSoFar stops watches limit e s before steps left d u between steps'
-    → GoesBack stops watches left u between between' u' gone Back.Call → CallTakenBack d d' → ¬ Contains stops u'.pc
+    → GoesBack stops watches left u between between' u' gone Back.Call → CallTakenBack d d'
+    → NoneTouchedBehind watches u' → ¬ Contains stops u'.pc
     → BackSoFar stops watches limit e s before steps (left - 1) d' u' between' (steps' - gone)
-call_gone stops watches limit e s before steps left d u between steps' gone d' u' between' so_far back taken none = record {
+call_gone stops watches limit e s before steps left d u between steps' gone d' u' between' so_far back taken untouched none = record {
   gone = so_far.gone + gone;
   counted = omega (arith, so_far.counted);
   goes_back = λ at e' t after more goes. subst (λ (n : ℕ). GoesOnBack at stops watches e' t after limit n e s before)
-      (omega arith) (so_far.goes_back at e' t after (gone + more) (CallsBack left gone more d u between d' u' between' back taken none goes));
+      (omega arith) (so_far.goes_back at e' t after (gone + more) (CallsBack left gone more d u between d' u' between' back taken untouched none goes));
 }
 
 -- the last run, and how many steps there were in all
@@ -497,6 +548,24 @@ pub all_gone : (stops : List ℕ) (watches : List Watch) (limit : ℕ) (e : Reco
     → (gone : ℕ) × (last ≡ steps - gone) × GoesOnBack at stops watches e' t after limit gone e s before
 all_gone stops watches limit e s before steps left d u between steps' more last e' t after at so_far goes counted =
     (so_far.gone + more, omega (arith, so_far.counted, counted), so_far.goes_back at e' t after more goes)
+
+-- the last run, over an instruction that is made again
+pub touch_gone : (stops : List ℕ) (watches : List Watch) (limit : ℕ) (e : Recording) (s : State) (before : List State)
+    (steps left : ℕ) (d : Recording) (u : State) (between : List State) (steps' gone last : ℕ) (e' : Recording) (v t : State)
+    (watch : Watch) (reserved reserved' : Option ℕ) (old new : History)
+    → BackSoFar stops watches limit e s before steps left d u between steps'
+    → GoesBack stops watches left u between (past (changes old) v) v gone Back.Call → CallTakenBack d e'
+    → CarriedTouchesOne watches reserved v watch → MadeAgain reserved old v reserved' new t → last ≡ steps' - (gone - 1)
+    → (more : ℕ) × (last ≡ steps - more)
+    × GoesOnBack (Touched watch) stops watches e' t (past (changes new) t) limit more e s before
+touch_gone stops watches limit e s before steps left d u between steps' gone last e' v t watch reserved reserved' old new so_far back taken touched again counted =
+    let k = length back.passed in
+    let one : gone ≡ suc k = back.counted in
+    let less : last ≡ steps' - k = omega (arith, counted, one) in
+    all_gone stops watches limit e s before steps left d u between steps' k last e' t (past (changes new) t) (Touched watch) so_far
+    (TouchesBack left k d u between v (past (changes old) v) watch reserved reserved' old new
+    (subst (λ (n : ℕ). GoesBack stops watches left u between (past (changes old) v) v n Back.Call) one back)
+    taken touched refl refl again refl) less
 
 -- ---- a program that is to go on, and has ended or not
 

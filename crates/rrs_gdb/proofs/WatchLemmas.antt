@@ -32,13 +32,13 @@ watched_if watch a n start from is_start is_from some long below =
 -- ---- one step
 
 -- the access of a request touches what the request touches
-access_asked : (watch : Watch) (s : State) (request : DataRequest) → IsAskedOf watch request
+pub access_asked : (watch : Watch) (s : State) (request : DataRequest) → IsAskedOf watch request
     → (access : Access) × Contains (requested s (Ok (Some request))) access × IsTouchedBy watch access
 access_asked watch s (DataRequest.Load a size) asked = (read_in s a size, (0, omega arith, refl), asked)
 access_asked watch s (DataRequest.Store a size value) asked = (write_in s a size value, (0, omega arith, refl), asked)
 
 -- and nothing else touches it
-asked_access : (watch : Watch) (s : State) (request : DataRequest) (access : Access)
+pub asked_access : (watch : Watch) (s : State) (request : DataRequest) (access : Access)
     → Contains (requested s (Ok (Some request))) access → IsTouchedBy watch access → IsAskedOf watch request
 asked_access watch s (DataRequest.Load a size) access (zero, below, same) touches =
     subst (λ (x : Access). IsTouchedBy watch x) (sym same) touches

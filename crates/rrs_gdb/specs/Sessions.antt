@@ -12,6 +12,7 @@ use Rattle.rrs_lib.specs.Accesses.{Access}
 use Rattle.rrs_lib.specs.Machine.{State, reg, with_pc}
 use Rattle.rrs_linux.specs.Recording.{Recording, Records}
 use Rattle.rrs_history.specs.Calls.{IsServedStep, RemembersCall}
+use Rattle.rrs_gdb.specs.Carrying.{may_carry, CarriedTouchesNone, CarriedTouchesOne, Carried, MadeAgain}
 use Rattle.rrs_history.specs.declared.change.Change.{Change}
 use Rattle.rrs_gdb.specs.declared.breaks.Break.{Break}
 use Rattle.rrs_gdb.specs.declared.breaks.Break.TheVariants as Place
@@ -110,10 +111,11 @@ pub record BreaksKept (old new : SessionState) : Type 0 where
   pub stops_kept : new.breaks.stops.items ≡ old.breaks.stops.items
   pub watches_kept : new.breaks.watches.items ≡ old.breaks.watches.items
 
--- the settings and the history are as they were
+-- the settings, the history and what is reserved are as they were
 pub record SettingsKept (old new : SessionState) : Type 0 where
   pub settings_kept : new.settings ≡ old.settings
   pub history_kept : new.history ≡ old.history
+  pub reserved_kept : new.reservation ≡ old.reservation
 
 -- the breakpoints, the watchpoints, the settings, and which calls are caught are as they were
 pub record PlacesKept (old new : SessionState) : Type 0 where
@@ -122,12 +124,13 @@ pub record PlacesKept (old new : SessionState) : Type 0 where
   pub settings_kept : new.settings ≡ old.settings
   pub caught_kept : new.caught ≡ old.caught
 
--- the breakpoints, the watchpoints, the settings and the history are as they were
+-- the breakpoints, the watchpoints, the settings, the history and what is reserved are as they were
 pub record SessionKept (old new : SessionState) : Type 0 where
   pub stops_kept : new.breaks.stops.items ≡ old.breaks.stops.items
   pub watches_kept : new.breaks.watches.items ≡ old.breaks.watches.items
   pub settings_kept : new.settings ≡ old.settings
   pub history_kept : new.history ≡ old.history
+  pub reserved_kept : new.reservation ≡ old.reservation
 
 -- a program stopped because it exited, or because a signal killed it
 abbrev pub is_end : Stop → Bool
@@ -426,11 +429,12 @@ asked_by session = record {
   stops_at_exit = session.settings.stops_at_exit;
 }
 
--- What is around the machine: the environment of the program, the steps that can be taken back,
--- whether the call at the pc, or the exit there, was told before it is made, and where the program
--- stopped last.
+-- What is around the machine: the environment of the program, the address that it has reserved,
+-- the steps that can be taken back, whether the call at the pc, or the exit there, was told before
+-- it is made, and where the program stopped last.
 pub record Around : Type 0 where
   pub environment : Recording
+  pub reserved : Option ℕ
   pub history : History
   pub entered : Bool
   pub told_exit : Bool
@@ -439,6 +443,7 @@ pub record Around : Type 0 where
 abbrev pub around : SessionState → Recording → Around
 around session environment = record {
   environment = environment;
+  reserved = session.reservation;
   history = session.history;
   entered = session.has_entered;
   told_exit = session.has_told_exit;
@@ -473,7 +478,7 @@ stop_of at_limit (Touches watch) = Touched watch
 stop_of at_limit Forward.Limit = at_limit
 stop_of at_limit (Fault fault) = Signal (signal_of fault)
 
--- a run ended at a call
+-- an exception is a call
 abbrev pub is_call : InstructionException → Bool
 is_call (EnvironmentCall pc) = true
 is_call (IllegalInstruction pc word) = false
@@ -483,11 +488,12 @@ is_call (FetchError a) = false
 is_call (LoadAccessFault a) = false
 is_call (StoreAccessFault a) = false
 
-abbrev pub ends_at_call : ForwardReason → Bool
-ends_at_call AtStop = false
-ends_at_call (Touches watch) = false
-ends_at_call Forward.Limit = false
-ends_at_call (Fault fault) = is_call fault
+-- a run ended with an exception
+abbrev pub ends_by_fault : ForwardReason → Bool
+ends_by_fault AtStop = false
+ends_by_fault (Touches watch) = false
+ends_by_fault Forward.Limit = false
+ends_by_fault (Fault fault) = true
 
 -- ---- calls
 
@@ -541,6 +547,7 @@ pub record CallServed (a : Around) (m : State) (end : Option ℕ) (b : Around) (
   pub accesses : List Access
   pub served : IsServedStep Records is_call a.environment m (Ok end) after t accesses
   pub output_taken : OutputTaken after b.environment
+  pub reserved_kept : b.reserved ≡ a.reserved
   pub remembered : RemembersCall is_call a.history m b.history t (length accesses)
 
 -- a stop after a call that was served
@@ -587,7 +594,59 @@ pub data CallStops (asked : Asked) (a : Around) (m : State) (b : Around) (t : St
       → IsServedStep Records is_call a.environment m (Err fault) b.environment t accesses
       → b.stop ≡ Signal (signal_of fault) → CallStops asked a m b t
 
+-- ---- instructions that are carried out
+
+-- A step faulted at the instruction at the pc. It touches no watchpoint, and is carried out from m.
+-- That is a step: nothing is told of the call at the pc then.
+pub record CarriedOn (asked : Asked) (fault : InstructionException) (a : Around) (m : State)
+    (b : Around) (t : State) : Type 0 where
+  pub touches_none : CarriedTouchesNone asked.watches a.reserved m
+  pub carried : Carried fault a.reserved a.history m (Ok tt) b.reserved b.history t
+  pub environment_kept : b.environment ≡ a.environment
+  pub not_entered : b.entered ≡ false
+  pub not_told : b.told_exit ≡ false
+
+-- the program stops at an exception that is no call, or behind the instruction that raised it
+pub data FaultStops (asked : Asked) (fault : InstructionException) (a : Around) (m : State)
+    (b : Around) (t : State) : Type 0 where
+  -- an exception after which nothing is carried out
+  Stands : may_carry fault ≡ false → b ≡ stopped_at a (Signal (signal_of fault)) → t ≡ m
+      → FaultStops asked fault a m b t
+  -- the instruction is to touch a watchpoint
+  ToTouch : (watch : Watch) → may_carry fault ≡ true
+      → CarriedTouchesOne asked.watches a.reserved m watch
+      → b ≡ stopped_at a (Touched watch) → t ≡ m
+      → FaultStops asked fault a m b t
+  -- it is not carried out: this exception is left
+  Left : (left : InstructionException) → may_carry fault ≡ true
+      → CarriedTouchesNone asked.watches a.reserved m
+      → Carried fault a.reserved a.history m (Err left) b.reserved b.history t
+      → b.environment ≡ a.environment → b.entered ≡ a.entered → b.told_exit ≡ a.told_exit
+      → b.stop ≡ Signal (signal_of left)
+      → FaultStops asked fault a m b t
+  -- it is carried out, and leads to a breakpoint
+  ToStop : may_carry fault ≡ true → CarriedOn asked fault a m b t
+      → Contains asked.stops t.pc → b.stop ≡ Signal 5
+      → FaultStops asked fault a m b t
+
 -- ---- the program goes on
+
+-- The program stops at an exception: at a call as that says, and else at the instruction.
+pub data StopsAt (asked : Asked) (fault : InstructionException) (a : Around) (m : State)
+    (b : Around) (t : State) : Type 0 where
+  AtCall : (pc : ℕ) → fault ≡ EnvironmentCall pc → CallStops asked a m b t
+      → StopsAt asked fault a m b t
+  AtFault : is_call fault ≡ false → FaultStops asked fault a m b t
+      → StopsAt asked fault a m b t
+
+-- The program goes on behind an exception: the call is served, or the instruction is carried out,
+-- and leads to no breakpoint.
+pub data Passes (asked : Asked) (fault : InstructionException) (a : Around) (m : State)
+    (b : Around) (t : State) : Type 0 where
+  ByCall : (pc : ℕ) → fault ≡ EnvironmentCall pc → CallMade asked a m b t
+      → Passes asked fault a m b t
+  ByCarrying : may_carry fault ≡ true → CarriedOn asked fault a m b t → ¬ Contains asked.stops t.pc
+      → Passes asked fault a m b t
 
 -- the most steps and calls that a program may make, and where it stops after these
 pub record Most : Type 0 where
@@ -609,31 +668,33 @@ still (suc steps) told = false
 -- So many steps were made from s to t. The history keeps them, if there is room for one at least.
 pub record Ran (steps : ℕ) (a : Around) (s : State) (b : Around) (t : State) : Type 0 where
   pub environment_kept : b.environment ≡ a.environment
+  pub reserved_kept : b.reserved ≡ a.reserved
   pub kept : 1 ≤ room a.history → KeepsSteps steps a.history s b.history t
   pub entered_kept : b.entered ≡ still steps a.entered
   pub told_kept : b.told_exit ≡ still steps a.told_exit
 
 -- From a and s the program goes on to b and t, within a limit of steps and calls: by runs up to
--- stops and watchpoints, and between two of them by a call that is served. It stops at no call but
--- by what gdb asked for.
+-- stops and watchpoints, and between two of them by a call that is served or an instruction that is
+-- carried out. It stops at no call but by what gdb asked for.
 pub data GoesOn (asked : Asked) (at_limit : Stop) (b : Around) (t : State)
     : ℕ → Around → State → Type 0 where
-  -- a run, to no call
+  -- a run, to no exception
   Runs : (limit : ℕ) (a : Around) (s : State) (steps : ℕ) (reason : ForwardReason)
       → GoesForward asked.stops asked.watches limit s steps reason t
-      → ends_at_call reason ≡ false
+      → ends_by_fault reason ≡ false
       → Ran steps a s b t → b.stop ≡ stop_of at_limit reason
       → GoesOn asked at_limit b t limit a s
-  -- a run to a call, and a stop there
-  Stops : (limit : ℕ) (a : Around) (s : State) (steps pc : ℕ) (c : Around) (m : State)
-      → GoesForward asked.stops asked.watches limit s steps (Fault (EnvironmentCall pc)) m
-      → Ran steps a s c m → CallStops asked c m b t
+  -- a run to an exception, and a stop there
+  Stops : (limit : ℕ) (a : Around) (s : State) (steps : ℕ) (fault : InstructionException)
+      (c : Around) (m : State)
+      → GoesForward asked.stops asked.watches limit s steps (Fault fault) m
+      → Ran steps a s c m → StopsAt asked fault c m b t
       → GoesOn asked at_limit b t limit a s
-  -- a run to a call, the call, and what follows within what is left of the limit
-  Calls : (limit : ℕ) (a : Around) (s : State) (steps pc : ℕ) (c : Around) (m : State)
-      (d : Around) (u : State)
-      → GoesForward asked.stops asked.watches limit s steps (Fault (EnvironmentCall pc)) m
-      → Ran steps a s c m → CallMade asked c m d u
+  -- a run to an exception, what passes it, and what follows within what is left of the limit
+  GoesBehind : (limit : ℕ) (a : Around) (s : State) (steps : ℕ) (fault : InstructionException)
+      (c : Around) (m : State) (d : Around) (u : State)
+      → GoesForward asked.stops asked.watches limit s steps (Fault fault) m
+      → Ran steps a s c m → Passes asked fault c m d u
       → GoesOn asked at_limit b t (limit - steps - 1) d u
       → GoesOn asked at_limit b t limit a s
 
@@ -696,17 +757,22 @@ pub record Acts (actions : List ℕ) (ended : Bool) (asked : Asked) (limit : ℕ
 
 -- ---- the program goes back
 
--- What is noted before a call: of the environment how much input was left, the break, and the state
--- of the pseudo-random numbers; and how much output had been made.
-abbrev pub mark_of : Recording → ℕ → CallMark
-mark_of e made =
-    record { left = length e.input.now; top = e.heap.top; made = made; random = e.random }
+-- What is noted before a call, and before an instruction that is carried out: of the environment
+-- how much input was left, the break, and the state of the pseudo-random numbers; how much output
+-- had been made; and the address that was reserved.
+abbrev pub mark_of : Recording → ℕ → Option ℕ → CallMark
+mark_of e made reserved = record {
+  left = length e.input.now;
+  top = e.heap.top;
+  made = made;
+  random = e.random;
+  reservation = reserved;
+}
 
--- That is noted of a call that is made, before those of the calls before it, as far as there is
--- room.
+-- That is noted of one that is made, before those of the ones before it, as far as there is room.
 abbrev pub NotesCall : Recording → (old new : SessionState) → Type 0
-NotesCall e old new =
-    new.calls.items ≡ take old.calls.capacity (mark_of e old.made ∷ old.calls.items)
+NotesCall e old new = new.calls.items
+    ≡ take old.calls.capacity (mark_of e old.made old.reservation ∷ old.calls.items)
 
 -- A call is taken back: of the environment the input, the heap and the state of the pseudo-random
 -- numbers may change, and nothing else.
@@ -717,12 +783,14 @@ pub record CallTakenBack (e e' : Recording) : Type 0 where
   pub held_kept : e'.held ≡ e.held
 
 -- What was noted before the call is given back: the input that was left, the break, the state of
--- the pseudo-random numbers, and how much output had been made. The calls before it are noted still.
+-- the pseudo-random numbers, how much output had been made, and the address that was reserved. The
+-- calls before it are noted still.
 pub record GivenBack (mark : CallMark) (old new : SessionState) (e e' : Recording) : Type 0 where
   pub input : e'.input.now ≡ drop (length old.input.now - mark.left) old.input.now
   pub top : e'.heap ≡ record e.heap { top = mark.top }
   pub random : e'.random ≡ mark.random
   pub made : new.made ≡ mark.made
+  pub reserved : new.reservation ≡ mark.reservation
   pub calls : new.calls.items ≡ drop 1 old.calls.items
 
 -- where a run back stops, and why
@@ -733,9 +801,13 @@ stop_back Back.Call = Signal 5
 stop_back Back.AtBegin = AtBegin
 stop_back Back.Limit = Signal 5
 
+-- the call that was taken back, or the instruction that was carried out, touches no watchpoint
+abbrev pub NoneTouchedBehind : List Watch → State → Type 0
+NoneTouchedBehind watches u = (reserved : Option ℕ) × CarriedTouchesNone watches reserved u
+
 -- From e and s, with the states before it, the program goes back to e' and t, with those before
 -- that, within a limit, by so many steps in all: by runs back up to stops and watchpoints, and over
--- the calls between them. It stops there as said.
+-- the calls between them, and the instructions that were carried out. It stops there as said.
 pub data GoesOnBack (at : Stop) (stops : List ℕ) (watches : List Watch) (e' : Recording) (t : State)
     (after : List State) : ℕ → ℕ → Recording → State → List State → Type 0 where
   -- a run back, to no call
@@ -746,13 +818,23 @@ pub data GoesOnBack (at : Stop) (stops : List ℕ) (watches : List Watch) (e' : 
   -- a run back over a call, to a stop
   StopsBack : (limit steps : ℕ) (e : Recording) (s : State) (before : List State)
       → GoesBack stops watches limit s before after t steps Back.Call → CallTakenBack e e'
-      → Contains stops t.pc → at ≡ Signal 5
+      → NoneTouchedBehind watches t → Contains stops t.pc → at ≡ Signal 5
+      → GoesOnBack at stops watches e' t after limit steps e s before
+  -- a run back over an instruction that was carried out, and that touches a watchpoint; it is made
+  -- again, and is not counted
+  TouchesBack : (limit steps : ℕ) (e : Recording) (s : State) (before : List State)
+      (u : State) (between : List State) (watch : Watch)
+      (reserved reserved' : Option ℕ) (old new : History)
+      → GoesBack stops watches limit s before between u (suc steps) Back.Call → CallTakenBack e e'
+      → CarriedTouchesOne watches reserved u watch
+      → between ≡ past (changes old) u → after ≡ past (changes new) t
+      → MadeAgain reserved old u reserved' new t → at ≡ Touched watch
       → GoesOnBack at stops watches e' t after limit steps e s before
   -- a run back over a call, and what follows within what is left of the limit
   CallsBack : (limit steps more : ℕ) (e : Recording) (s : State) (before : List State)
       (d : Recording) (u : State) (between : List State)
       → GoesBack stops watches limit s before between u steps Back.Call → CallTakenBack e d
-      → ¬ Contains stops u.pc
+      → NoneTouchedBehind watches u → ¬ Contains stops u.pc
       → GoesOnBack at stops watches e' t after (limit - 1) more d u between
       → GoesOnBack at stops watches e' t after limit (steps + more) e s before
 

@@ -226,7 +226,7 @@ impl Breaks {
 }
 
 /// The first watchpoint that an access touches.
-fn touched(watches: &[Watch], access: DataRequest) -> Option<Watch>
+pub(crate) fn touched(watches: &[Watch], access: DataRequest) -> Option<Watch>
     ensures { MatchOption result
         ((watch : Watch) → Contains watches.now watch → ¬ IsAskedOf watch access)
         (λ watch. Contains watches.now watch × IsAskedOf watch access) }

@@ -12,6 +12,7 @@
 
 mod back;
 mod breaks;
+mod carrying;
 mod contents;
 mod forward;
 mod framing;

@@ -1,14 +1,17 @@
 //! The program goes on, forward and back.
 
-ghost use Rattle.std.specs.Prelude.{◌≡◌, ◌≢◌, ◌+◌, ◌-◌, ◌%◌, ◌^◌, ◌<◌, ◌++◌, drop, length, slice_get, false, Contains, IfOk, MatchOption, OnOk};
+ghost use Rattle.std.specs.Prelude.{◌≡◌, ◌≢◌, ◌+◌, ◌-◌, ◌%◌, ◌^◌, ◌<◌, ◌++◌, drop, length, slice_get, false, Contains, IfNone, IfOk, MatchOption, OnOk};
 ghost use Rattle.std.specs.Bool.{OnTrue, OnFalse};
 ghost use Rattle.rrs_gdb.specs.declared.back.BackEnd.{BackEnd};
 ghost use Rattle.rrs_lib.specs.Executor.{state_in};
 ghost use Rattle.rrs_linux.specs.Recording.{Recording};
+ghost use Rattle.rrs_gdb.specs.Carrying.{CarriedTouchesNone, CarriedTouchesOne, MadeAgain};
 ghost use Rattle.rrs_gdb.specs.Shown.{Prints};
-ghost use Rattle.rrs_gdb.specs.Sessions.{CallMade, CallStops, CallTakenBack, GivenBack, GoesOn, IsAfterCall, NotesCall, OutputTaken, PassesBefore, PlacesKept, PrintsCall, SessionGoesBack, StopsBefore, StopsBehind, around, asked_by, ends_at_call, is_call, mark_of, signal_of, still, stop_back, stop_of, stopped_at};
+ghost use Rattle.rrs_gdb.specs.Sessions.{CallMade, CallStops, CallTakenBack, FaultStops, GivenBack, GoesOn, IsAfterCall, NotesCall, OutputTaken, Passes, PassesBefore, PlacesKept, PrintsCall, SessionGoesBack, StopsAt, StopsBefore, StopsBehind, around, asked_by, is_call, mark_of, signal_of, still, stop_back, stop_of, stopped_at};
 
 use crate::back::{BackEnd, go_back};
+use crate::breaks::Watch;
+use crate::carrying::{carry, make_again, may_carry, watch_carried};
 use crate::forward::{ForwardEnd, ForwardReason, go_forward};
 use crate::link::{Link, LinkError};
 use crate::runner::StopRunner;
@@ -107,6 +110,7 @@ fn stop_before(state: &mut SessionState<'_>, number: u32) -> Option<Stop>
     ensures sent { state.new.sent ≡ state.old.sent }
     ensures steps { state.new.steps ≡ state.old.steps }
     ensures calls { state.new.calls ≡ state.old.calls }
+    ensures reserved { state.new.reservation ≡ state.old.reservation }
 {
     if state.catches(number) && !state.has_entered {
         state.has_entered = true;
@@ -141,15 +145,16 @@ fn stop_behind(state: &mut SessionState<'_>, number: u32, pc: u32) -> Option<Sto
     None
 }
 
-/// What an environment has before a call, by how many bytes of output were made.
-fn mark_of(environment: &OutputRecorder<'_>, made: u64) -> CallMark
-    ensures { result ≡ mark_of environment.now made }
+/// What there is before a call, by how many bytes of output were made, and by what is reserved.
+fn mark_of(environment: &OutputRecorder<'_>, made: u64, reservation: Option<u32>) -> CallMark
+    ensures { result ≡ mark_of environment.now made reservation }
 {
     CallMark {
         left: environment.input.len(),
         top: environment.heap.top,
         made,
         random: environment.random,
+        reservation,
     }
 }
 
@@ -188,7 +193,7 @@ fn make_call<M: Memory, R: Read, W: Write>(
     if let Some(stop) = stop_before(state, number) {
         return Ok(Some(stop));
     }
-    let mark = mark_of(environment, state.made);
+    let mark = mark_of(environment, state.made, state.reservation);
     let end = match step_served(executor, environment, &mut state.history) {
         Ok(end) => end,
         Err(fault) => return Ok(Some(Stop::Signal(signal_of(&fault)))),
@@ -223,6 +228,7 @@ fn count_steps(state: &mut SessionState<'_>, steps: u64)
     } }
     ensures counted { state.old.steps + steps < 2 ^ 64
         → state.new.steps ≡ state.old.steps + steps }
+    ensures calls { state.new.calls ≡ state.old.calls }
 {
     state.steps = state.steps.saturating_add(steps);
     if steps == 0 {
@@ -230,16 +236,6 @@ fn count_steps(state: &mut SessionState<'_>, steps: u64)
     }
     state.has_entered = false;
     state.has_told_exit = false;
-}
-
-/// Whether a run ended at a call.
-fn ends_at_call(reason: &ForwardReason) -> bool
-    ensures { result ≡ ends_at_call reason.now }
-{
-    match reason {
-        ForwardReason::Fault(fault) => is_call(fault),
-        ForwardReason::AtStop | ForwardReason::Touches(_) | ForwardReason::Limit => false,
-    }
 }
 
 /// Whether an exception is a call.
@@ -255,6 +251,73 @@ fn is_call(fault: &InstructionException) -> bool
         | InstructionException::LoadAccessFault(_)
         | InstructionException::StoreAccessFault(_) => false,
     }
+}
+
+/// Carries out the instruction at the pc, at which a step faulted. The answer is the stop that
+/// comes of it: at the fault, before an access to a watchpoint, or behind the instruction.
+fn carry_on<M: Memory>(
+    state: &mut SessionState<'_>,
+    executor: &mut InstructionExecutor<M>,
+    environment: &OutputRecorder<'_>,
+    fault: InstructionException,
+) -> Option<Stop>
+    ensures places { PlacesKept state.old state.new }
+    ensures carried { is_call fault ≡ false → MatchOption result
+        (Passes (asked_by state.old) fault
+        (around state.old environment.now) (state_in M.bytes M.writable executor.old)
+        (around state.new environment.now) (state_in M.bytes M.writable executor.new))
+        (λ at. FaultStops (asked_by state.old) fault
+        (around state.old environment.now) (state_in M.bytes M.writable executor.old)
+        (stopped_at (around state.new environment.now) at)
+        (state_in M.bytes M.writable executor.new)) }
+    ensures counted { state.old.steps < 2 ^ 64 - 1 → IfNone result
+        (state.new.steps ≡ state.old.steps + 1) }
+    ensures noted { IfNone result (NotesCall environment.now state.old state.new) }
+{
+    if !may_carry(&fault) {
+        return Some(Stop::Signal(signal_of(&fault)));
+    }
+    let watches = &state.breaks.watches;
+    if let Some(watch) = watch_carried(executor, watches, state.reservation) {
+        return Some(Stop::Touched(watch));
+    }
+    let mark = mark_of(environment, state.made, state.reservation);
+    let (history, reservation) = (&mut state.history, &mut state.reservation);
+    if let Err(left) = carry(executor, history, reservation, fault) {
+        return Some(Stop::Signal(signal_of(&left)));
+    }
+    let _forgotten = state.calls.push_front(mark);
+    count_steps(state, 1);
+    if is_stop(&state.breaks.stops, executor.hart_state.pc) {
+        return Some(Stop::Signal(TRAPPED));
+    }
+    None
+}
+
+/// Goes on behind an exception: a call is served, and another instruction carried out. The answer
+/// is the stop that comes of it.
+fn pass<M: Memory, R: Read, W: Write>(
+    state: &mut SessionState<'_>,
+    executor: &mut InstructionExecutor<M>,
+    environment: &mut OutputRecorder<'_>,
+    link: &mut Link<R, W>,
+    fault: InstructionException,
+) -> Result<Option<Stop>, LinkError>
+    ensures places { PlacesKept state.old state.new }
+    ensures passes { IfOk result (λ stop. MatchOption stop
+        (Passes (asked_by state.old) fault
+        (around state.old environment.old) (state_in M.bytes M.writable executor.old)
+        (around state.new environment.new) (state_in M.bytes M.writable executor.new))
+        (λ at. StopsAt (asked_by state.old) fault
+        (around state.old environment.old) (state_in M.bytes M.writable executor.old)
+        (stopped_at (around state.new environment.new) at)
+        (state_in M.bytes M.writable executor.new))) }
+    ensures acknowledges { link.new.acknowledges ≡ link.old.acknowledges }
+{
+    if is_call(&fault) {
+        return make_call(state, executor, environment, link);
+    }
+    Ok(carry_on(state, executor, environment, fault))
 }
 
 /// Goes forward, to a stop or for `limit` steps, each call that is served being one.
@@ -284,10 +347,11 @@ pub(crate) fn forward<M: Memory, G: StopRunner<M>, R: Read, W: Write>(
             &state.breaks,
         );
         count_steps(state, steps);
-        if !ends_at_call(&reason) {
-            return Ok(stop_of(&reason, at_limit));
-        }
-        if let Some(stop) = make_call(state, executor, environment, link)? {
+        let fault = match reason {
+            ForwardReason::Fault(fault) => fault,
+            other => return Ok(stop_of(&other, at_limit)),
+        };
+        if let Some(stop) = pass(state, executor, environment, link, fault)? {
             return Ok(stop);
         }
         left = left.saturating_sub(steps).saturating_sub(1);
@@ -295,7 +359,7 @@ pub(crate) fn forward<M: Memory, G: StopRunner<M>, R: Read, W: Write>(
     Ok(at_limit)
 }
 
-/// Gives the environment what it had before the call that was taken back.
+/// Gives back what there was before the call that was taken back.
 fn take_call_back<'a>(state: &mut SessionState<'a>, environment: &mut OutputRecorder<'a>)
     ensures places { PlacesKept state.old state.new }
     ensures history { state.new.history ≡ state.old.history }
@@ -312,6 +376,7 @@ fn take_call_back<'a>(state: &mut SessionState<'a>, environment: &mut OutputReco
         environment.heap.top = mark.top;
         environment.random = mark.random;
         state.made = mark.made;
+        state.reservation = mark.reservation;
     }
 }
 
@@ -337,6 +402,37 @@ fn stop_back(end: &BackEnd) -> Stop
     }
 }
 
+/// The watchpoint that the instruction touches which was taken back, where it was carried out after
+/// a fault. It is made again then.
+fn touch_again<M: Memory>(
+    state: &mut SessionState<'_>,
+    executor: &mut InstructionExecutor<M>,
+    environment: &OutputRecorder<'_>,
+) -> Option<Watch>
+    ensures places { PlacesKept state.old state.new }
+    ensures steps { state.new.steps ≡ state.old.steps }
+    ensures touched { MatchOption result
+        ((state_in M.bytes M.writable executor.new ≡ state_in M.bytes M.writable executor.old)
+        × (state.new.history ≡ state.old.history)
+        × CarriedTouchesNone state.old.breaks.watches.items state.old.reservation
+        (state_in M.bytes M.writable executor.old))
+        (λ watch. CarriedTouchesOne state.old.breaks.watches.items state.old.reservation
+        (state_in M.bytes M.writable executor.old) watch
+        × MadeAgain state.old.reservation state.old.history
+        (state_in M.bytes M.writable executor.old) state.new.reservation state.new.history
+        (state_in M.bytes M.writable executor.new)) }
+{
+    let watches = &state.breaks.watches;
+    let Some(watch) = watch_carried(executor, watches, state.reservation) else {
+        return None;
+    };
+    let mark = mark_of(environment, state.made, state.reservation);
+    if make_again(executor, &mut state.history, &mut state.reservation) {
+        let _forgotten = state.calls.push_front(mark);
+    }
+    Some(watch)
+}
+
 /// Goes back, to a stop or for `limit` steps, each call being one. Steps that are taken back are no
 /// longer counted.
 pub(crate) fn backward<'a, M: Memory>(
@@ -355,11 +451,16 @@ pub(crate) fn backward<'a, M: Memory>(
     let mut left = limit;
     'legs: while left > 0 {
         let back = go_back(executor, &mut state.history, left, &state.breaks);
-        state.steps = state.steps.saturating_sub(back.steps);
         if !is_behind_call(&back.end) {
+            state.steps = state.steps.saturating_sub(back.steps);
             return stop_back(&back.end);
         }
         take_call_back(state, environment);
+        if let Some(watch) = touch_again(state, executor, environment) {
+            state.steps = state.steps.saturating_sub(back.steps.saturating_sub(1));
+            return Stop::Touched(watch);
+        }
+        state.steps = state.steps.saturating_sub(back.steps);
         if is_stop(&state.breaks.stops, executor.hart_state.pc) {
             return Stop::Signal(TRAPPED);
         }

@@ -1,6 +1,6 @@
 //! What a session keeps beside the machine.
 
-ghost use Rattle.std.specs.Prelude.{◌≡◌, ◌^◌, ◌++◌, ◌∷◌, [], take, true, false, IfOk, OnErr, OnOk};
+ghost use Rattle.std.specs.Prelude.{◌≡◌, ◌^◌, ◌++◌, ◌∷◌, [], take, true, false, None, IfOk, OnErr, OnOk};
 ghost use Rattle.std.specs.Bool.{OnTrue, OnFalse};
 ghost use Rattle.std.specs.Fmt.{digits};
 ghost use Rattle.rrs_history.specs.Histories.{changes, room as room_of};
@@ -63,7 +63,7 @@ pub(crate) enum Stop {
     Killed(u8),
 }
 
-/// What an environment had before a call.
+/// What there was before a call, or before an instruction that was carried out.
 #[derive(Clone, Copy)]
 pub(crate) struct CallMark {
     /// How many bytes of the input were left.
@@ -74,6 +74,8 @@ pub(crate) struct CallMark {
     pub(crate) made: u64,
     /// The state of the pseudo-random numbers.
     pub(crate) random: u64,
+    /// The address that was reserved.
+    pub(crate) reservation: Option<u32>,
 }
 
 /// Which calls are caught.
@@ -92,8 +94,11 @@ pub struct SessionState<'a> {
     pub breaks: Breaks,
     /// The steps that can be taken back.
     pub history: History,
-    /// What the environment had before each call that is kept, the latest first.
+    /// What there was before each call that is kept, and before each instruction that was carried
+    /// out, the latest first.
     pub(crate) calls: HeapCircularBuffer<CallMark>,
+    /// The address that the program has reserved.
+    pub(crate) reservation: Option<u32>,
     /// What `monitor` sets.
     pub settings: Settings,
     /// Which calls are caught.
@@ -126,8 +131,8 @@ pub struct SessionState<'a> {
 
 impl<'a> SessionState<'a> {
     /// What a session begins with, for a program at a path and with an input: it made no step, as
-    /// one that was trapped before its first (`begins`), its history is empty and has the room that
-    /// is set (`emptied`, `room`), and gdb asked for nothing (`asked`).
+    /// one that was trapped before its first, with no address reserved (`begins`), its history is
+    /// empty and has the room that is set (`emptied`, `room`), and gdb asked for nothing (`asked`).
     ///
     /// # Errors
     ///
@@ -140,7 +145,8 @@ impl<'a> SessionState<'a> {
     ) -> Result<SessionState<'a>, AllocError>
         ensures settings { IfOk result (λ state. state.settings ≡ settings) }
         ensures begins { IfOk result (λ state. (state.steps ≡ 0) × (state.stop ≡ Stop.Signal 5)
-            × (state.has_entered ≡ false) × (state.has_told_exit ≡ false)) }
+            × (state.has_entered ≡ false) × (state.has_told_exit ≡ false)
+            × (state.reservation ≡ None)) }
         ensures emptied { IfOk result (λ state. changes state.history ≡ []) }
         ensures room { IfOk result (λ state. room_of state.history ≡ settings.history) }
         ensures asked { IfOk result (λ state. (state.breaks.stops.items ≡ [])
@@ -157,6 +163,7 @@ impl<'a> SessionState<'a> {
             breaks: Breaks::new(alloc),
             history: History::new(alloc, settings.history)?,
             calls: HeapCircularBuffer::with_capacity(alloc, settings.history)?,
+            reservation: None,
             settings,
             caught: Caught {
                 are_all: false,
@@ -181,18 +188,22 @@ impl<'a> SessionState<'a> {
     ///
     /// The history is empty (`emptied`). What gdb asked for stays: breakpoints, watchpoints,
     /// settings and calls that are caught (`kept`). The program has not ended: it stands as one
-    /// that was trapped before its first step, and nothing was told of the call at its pc
-    /// (`goes_on`, `around`). No steps are counted, and no output (`counted`, `output`).
+    /// that was trapped before its first step, no address is reserved, and nothing was told of the
+    /// call at its pc (`goes_on`, `around`). No steps are counted, and no output (`counted`,
+    /// `output`).
     pub fn begin_again(&mut self)
         ensures emptied { changes self.new.history ≡ [] }
         ensures kept { PlacesKept self.old self.new }
         ensures goes_on { has_ended self.new ≡ false }
         ensures around { (environment : Recording) → around self.new environment
-            ≡ stopped_at (forgotten (around self.old environment)) (Stop.Signal 5) }
+            ≡ record (stopped_at (forgotten (around self.old environment)) (Stop.Signal 5)) {
+              reserved = None;
+            } }
         ensures counted { self.new.steps ≡ 0 }
         ensures output { (self.new.made ≡ 0) × (self.new.sent ≡ 0) }
     {
         self.forget();
+        self.reservation = None;
         self.steps = 0;
         self.made = 0;
         self.sent = 0;

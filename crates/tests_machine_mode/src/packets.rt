@@ -123,8 +123,9 @@ pub(crate) fn wanted(alloc: Global, payloads: &str) -> Result<Vec<u8>, AllocErro
 }
 
 /// Sessions, and what they are answered. Each packet is in one of them, in a stream below, or in a
-/// session of gdb. In one of them `getrandom` is called, taken back, and called again.
-const SESSIONS: [(&str, &str); 15] = [
+/// session of gdb. In one of them `getrandom` is called, taken back, and called again; in another a
+/// misaligned store and an AMO are watched and taken back, and a misaligned `lr.w` is a fault.
+const SESSIONS: [(&str, &str); 16] = [
     ("?|!|qC", "S05|+|OK|+|QC1"),
     (
         "qAttached|!|qAttached|qfThreadInfo|qsThreadInfo|Hg0|T1|vMustReplyEmpty|q|Q",
@@ -170,6 +171,10 @@ const SESSIONS: [(&str, &str); 15] = [
     (
         "P20=1c000000|P11=16010000|Pa=40000000|Pb=04000000|Pc=00000000|s|m40,4|pa|bs|m40,4|s|m40,4|P20=1c000000|Pa=40000000|s|m40,4",
         "OK|+|OK|+|OK|+|OK|+|OK|+|S05|+|afcd1d7b|+|04000000|+|S05|+|41424344|+|S05|+|afcd1d7b|+|OK|+|OK|+|S05|+|b0ba6349",
+    ),
+    (
+        "M0,14:9300100423a0100013014004af2111002fa20010|s|s|m40,8|bs|m40,8|p20|Z2,43,1|c|p20|z2,43,1|Z3,44,4|c|p20|z3,44,4|s|m44,4|p3|Z4,41,1|bc|p20|m40,8|z4,41,1|c|p20|qRcmd,7374657073|bs|p20|m44,4|bc|Z0,8,4|c|p20",
+        "OK|+|S05|+|S05|+|4141000000000000|+|S05|+|4142434400000000|+|04000000|+|OK|+|T05watch:43;|+|04000000|+|OK|+|OK|+|T05rwatch:44;|+|0c000000|+|OK|+|S05|+|41000000|+|00000000|+|OK|+|T05awatch:41;|+|08000000|+|4141000000000000|+|OK|+|S0a|+|10000000|+|73746570733a20342c206f6620776869636820342063616e2062652074616b656e206261636b0a|+|S05|+|0c000000|+|00000000|+|T05replaylog:begin;|+|OK|+|S05|+|08000000",
     ),
     (
         "qXfer:exec-file:read:1:0,1|qXfer:exec-file:read:1:1,9|qXfer:features:read:a:0,9|qXfer:exec-file:read:1:9|vKill;1",

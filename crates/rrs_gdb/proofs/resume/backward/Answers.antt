@@ -1,11 +1,14 @@
-use Rattle.std.proofs.Common.{ℕ, ◌-◌, List, Contains, refl, sym, subst, ◌∙◌, arith}
+use Rattle.std.proofs.Common.{ℕ, ◌-◌, List, Contains, refl, sym, subst, ap, ◌∙◌, arith}
+use Rattle.rrs_lib.specs.Machine.{State}
 use Rattle.rrs_lib.specs.Executor.{state_in}
 use Rattle.rrs_history.specs.declared.history.History.{History}
 use Rattle.rrs_history.specs.Histories.{changes, past}
+use Rattle.rrs_gdb.specs.declared.breaks.Watch.{Watch}
 use Rattle.rrs_gdb.specs.declared.back.BackEnd.TheVariants as Back
 use Rattle.rrs_gdb.specs.Breaks.{GoesBack}
-use Rattle.rrs_gdb.specs.Sessions.{RunsBack, StopsBack}
-use Rattle.rrs_gdb.proofs.SessionLemmas.{BackSoFar, all_gone, call_gone, none_gone, nothing_back, same_back, back_to_call}
+use Rattle.rrs_gdb.specs.Carrying.{CarriedTouchesNone, CarriedTouchesOne}
+use Rattle.rrs_gdb.specs.Sessions.{NoneTouchedBehind, RunsBack, StopsBack}
+use Rattle.rrs_gdb.proofs.SessionLemmas.{BackSoFar, all_gone, call_gone, none_gone, nothing_back, same_back, back_to_call, touch_gone}
 use Rattle.rrs_gdb.proofs.resume.backward.Goals as goal
 
 pub legs-init : goal.legs-init
@@ -22,52 +25,103 @@ returns-then-not-is_behind_call-clause-back g c =
     (same_back _ _ _ _ _ _ _ _ _ _ back.end i.places.stops_kept i.places.watches_kept
     c.go_back-back.ensures.back) c.if-not-is_behind_call.ensures.no refl c.stop_back.ensures) c.saturating_sub-state.ensures
 
-pub returns-then-is_stop-clause-back : goal.returns-then-is_stop-clause-back
-returns-then-is_stop-clause-back g c =
+pub returns-in-Some-clause-back : goal.returns-in-Some-clause-back
+returns-in-Some-clause-back g c =
     let i = c.legs.invariant in
     let state = state_in g.M.Memory.bytes g.M.Memory.writable in
-    let t = state c.go_back-back.new.executor in
-    let s = state c.legs.executor in
-    let gone = c.go_back-back.result.steps in
-    let back = subst (λ (h : History). GoesBack c.args.state.now.breaks.stops.items c.args.state.now.breaks.watches.items
-    c.legs.left s (past (changes c.legs.state.history) s) (past (changes h) t) t gone Back.Call)
-    (sym c.take_call_back.ensures.history)
-    (back_to_call _ _ _ _ _ _ _ _ _ _ c.go_back-back.result.end i.places.stops_kept i.places.watches_kept
-    c.if-not-is_behind_call.ensures.yes c.go_back-back.ensures.back) in
-    all_gone _ _ _ _ _ _ _ _ _ _ _ _ gone _ _ _ _ _ i.so_far (StopsBack _ gone _ _ _ back c.take_call_back.ensures.taken
-    (subst (λ (xs : List ℕ). Contains xs t.pc) (c.take_call_back.ensures.places.stops_kept ∙ i.places.stops_kept)
-    (rw c.deref.ensures.value at c.if-is_stop.ensures.yes)) refl) (c.take_call_back.ensures.steps ∙ c.saturating_sub-state.ensures)
-
-pub legs-preserved : goal.legs-preserved
-legs-preserved g c =
-    let i = c.legs.invariant in
-    let state = state_in g.M.Memory.bytes g.M.Memory.writable in
-    let t = state c.go_back-back.new.executor in
+    let u = state c.go_back-back.new.executor in
     let s = state c.legs.executor in
     let gone = c.go_back-back.result.steps in
     let kept = c.take_call_back.ensures.places in
     let stops = c.args.state.now.breaks.stops.items in
     let watches = c.args.state.now.breaks.watches.items in
-    let first = state c.args.executor.now in
     let back = subst (λ (h : History). GoesBack stops watches
-    c.legs.left s (past (changes c.legs.state.history) s) (past (changes h) t) t gone Back.Call)
+    c.legs.left s (past (changes c.legs.state.history) s) (past (changes h) u) u gone Back.Call)
     (sym c.take_call_back.ensures.history)
     (back_to_call _ _ _ _ _ _ _ _ _ _ c.go_back-back.result.end i.places.stops_kept i.places.watches_kept
     c.if-not-is_behind_call.ensures.yes c.go_back-back.ensures.back) in
-    let none = subst (λ (xs : List ℕ). ¬ Contains xs t.pc) (kept.stops_kept ∙ i.places.stops_kept)
+    let touched = c.in-Some.ensures.touched in
+    let one = subst (λ (ws : List Watch). CarriedTouchesOne ws c.take_call_back.new.state.reservation u c.in-Some.watch)
+    (kept.watches_kept ∙ i.places.watches_kept) touched.0 in
+    touch_gone _ _ _ _ _ _ _ _ _ _ _ _ gone _ _ _ _ c.in-Some.watch c.take_call_back.new.state.reservation _
+    c.take_call_back.new.state.history c.touch_again.new.state.history i.so_far back c.take_call_back.ensures.taken one touched.1
+    (c.saturating_sub-state-in-Some.ensures ∙ (λ k. (c.touch_again.ensures.steps ∙ c.take_call_back.ensures.steps) k - c.saturating_sub.ensures k))
+
+pub returns-then-is_stop-clause-back : goal.returns-then-is_stop-clause-back
+returns-then-is_stop-clause-back g c =
+    let i = c.legs.invariant in
+    let state = state_in g.M.Memory.bytes g.M.Memory.writable in
+    let u = state c.go_back-back.new.executor in
+    let t = state c.touch_again.new.executor in
+    let s = state c.legs.executor in
+    let gone = c.go_back-back.result.steps in
+    let kept = c.take_call_back.ensures.places in
+    let stops = c.args.state.now.breaks.stops.items in
+    let watches = c.args.state.now.breaks.watches.items in
+    let none = c.in_default.ensures.touched in
+    let back = subst (λ (x : State). GoesBack stops watches c.legs.left s (past (changes c.legs.state.history) s)
+    (past (changes c.touch_again.new.state.history) x) x gone Back.Call) (sym none.0)
+    (subst (λ (h : History). GoesBack stops watches
+    c.legs.left s (past (changes c.legs.state.history) s) (past (changes h) u) u gone Back.Call)
+    (sym (none.1 ∙ c.take_call_back.ensures.history))
+    (back_to_call _ _ _ _ _ _ _ _ _ _ c.go_back-back.result.end i.places.stops_kept i.places.watches_kept
+    c.if-not-is_behind_call.ensures.yes c.go_back-back.ensures.back)) in
+    let places = c.touch_again.ensures.places.stops_kept ∙ kept.stops_kept ∙ i.places.stops_kept in
+    let untouched : NoneTouchedBehind watches t = (
+      c.take_call_back.new.state.reservation,
+      subst (λ (ws : List Watch). CarriedTouchesNone ws c.take_call_back.new.state.reservation t)
+          (kept.watches_kept ∙ i.places.watches_kept)
+          (subst (λ (x : State). CarriedTouchesNone c.take_call_back.new.state.breaks.watches.items
+          c.take_call_back.new.state.reservation x) (sym none.0) none.2),
+    ) in
+    all_gone _ _ _ _ _ _ _ _ _ _ _ _ gone _ _ _ _ _ i.so_far (StopsBack _ gone _ _ _ back c.take_call_back.ensures.taken
+    untouched
+    (subst (λ (xs : List ℕ). Contains xs t.pc) places (rw c.deref.ensures.value at c.if-is_stop.ensures.yes)) refl)
+    (c.saturating_sub-state-in-legs.ensures ∙ ap (λ (n : ℕ). n - gone) (c.touch_again.ensures.steps ∙ c.take_call_back.ensures.steps))
+
+pub legs-preserved : goal.legs-preserved
+legs-preserved g c =
+    let i = c.legs.invariant in
+    let state = state_in g.M.Memory.bytes g.M.Memory.writable in
+    let u = state c.go_back-back.new.executor in
+    let t = state c.touch_again.new.executor in
+    let s = state c.legs.executor in
+    let gone = c.go_back-back.result.steps in
+    let kept = c.take_call_back.ensures.places in
+    let again = c.touch_again.ensures.places in
+    let stops = c.args.state.now.breaks.stops.items in
+    let watches = c.args.state.now.breaks.watches.items in
+    let first = state c.args.executor.now in
+    let none = c.in_default.ensures.touched in
+    let back = subst (λ (x : State). GoesBack stops watches c.legs.left s (past (changes c.legs.state.history) s)
+    (past (changes c.touch_again.new.state.history) x) x gone Back.Call) (sym none.0)
+    (subst (λ (h : History). GoesBack stops watches
+    c.legs.left s (past (changes c.legs.state.history) s) (past (changes h) u) u gone Back.Call)
+    (sym (none.1 ∙ c.take_call_back.ensures.history))
+    (back_to_call _ _ _ _ _ _ _ _ _ _ c.go_back-back.result.end i.places.stops_kept i.places.watches_kept
+    c.if-not-is_behind_call.ensures.yes c.go_back-back.ensures.back)) in
+    let untouched : NoneTouchedBehind watches t = (
+      c.take_call_back.new.state.reservation,
+      subst (λ (ws : List Watch). CarriedTouchesNone ws c.take_call_back.new.state.reservation t)
+          (kept.watches_kept ∙ i.places.watches_kept)
+          (subst (λ (x : State). CarriedTouchesNone c.take_call_back.new.state.breaks.watches.items
+          c.take_call_back.new.state.reservation x) (sym none.0) none.2),
+    ) in
+    let no_stop = subst (λ (xs : List ℕ). ¬ Contains xs t.pc) (again.stops_kept ∙ kept.stops_kept ∙ i.places.stops_kept)
     (rw c.deref.ensures.value at c.if-is_stop.ensures.no) in
-    let counted = c.take_call_back.ensures.steps ∙ c.saturating_sub-state.ensures in
+    let counted = c.saturating_sub-state-in-legs.ensures
+    ∙ ap (λ (n : ℕ). n - gone) (c.touch_again.ensures.steps ∙ c.take_call_back.ensures.steps) in
     record {
       places = record {
-        stops_kept = kept.stops_kept ∙ i.places.stops_kept;
-        watches_kept = kept.watches_kept ∙ i.places.watches_kept;
-        settings_kept = kept.settings_kept ∙ i.places.settings_kept;
-        caught_kept = kept.caught_kept ∙ i.places.caught_kept;
+        stops_kept = again.stops_kept ∙ kept.stops_kept ∙ i.places.stops_kept;
+        watches_kept = again.watches_kept ∙ kept.watches_kept ∙ i.places.watches_kept;
+        settings_kept = again.settings_kept ∙ kept.settings_kept ∙ i.places.settings_kept;
+        caught_kept = again.caught_kept ∙ kept.caught_kept ∙ i.places.caught_kept;
       };
       so_far = subst (λ (n : ℕ). BackSoFar stops watches c.args.limit c.args.environment.now first
           (past (changes c.args.state.now.history) first) c.args.state.now.steps (c.legs.left - 1)
-          c.take_call_back.new.environment t (past (changes c.take_call_back.new.state.history) t) n) (sym counted)
-          (call_gone _ _ _ _ _ _ _ _ _ _ _ _ _ _ _ _ i.so_far back c.take_call_back.ensures.taken none);
+          c.take_call_back.new.environment t (past (changes c.touch_again.new.state.history) t) n) (sym counted)
+          (call_gone _ _ _ _ _ _ _ _ _ _ _ _ _ _ _ _ i.so_far back c.take_call_back.ensures.taken untouched no_stop);
     }
 
 pub returns-clause-back : goal.returns-clause-back

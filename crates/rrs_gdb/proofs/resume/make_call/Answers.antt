@@ -35,8 +35,9 @@ returns-in-Some-end-clause-made g c =
     let status = c.in-Some-end.status in
     let b = stopped_at (around sent.state sent.environment) (Exited (status % 256)) in
     let same = ap (λ (x : Around). x.history) (c.send_made.ensures.around sent.environment) in
+    let reserved = ap (λ (x : Around). x.reserved) (c.send_made.ensures.around sent.environment) in
     let served = call_served (around c.stop_before.new.state e) b s t c.in-Ok.end made.0 _ _ _ made.1 made.2
-    c.in_ok-send_made.ensures.taken same in
+    c.in_ok-send_made.ensures.taken reserved same in
     Ends status (subst (λ (n : ℕ). PassesBefore (asked_by c.args.state.now) a n) number passed.1)
     (subst (λ (o : Option ℕ). CallServed a s o b t) c.in-Some-end.is
     (subst (λ (x : Around). CallServed x s c.in-Ok.end b t) passed.0 served)) refl
@@ -56,11 +57,12 @@ returns-in-None-clause-made g c =
     let last = c.stop_behind.ensures.around sent.environment in
     let b = around c.stop_behind.new.state sent.environment in
     let same = ap (λ (x : Around). x.history) last ∙ ap (λ (x : Around). x.history) told in
+    let reserved = ap (λ (x : Around). x.reserved) last ∙ ap (λ (x : Around). x.reserved) told in
     let served = call_served (around c.stop_before.new.state e) b s t c.in-Ok.end made.0 _ _ _ made.1 made.2
-    c.in_ok-send_made.ensures.taken same in
+    c.in_ok-send_made.ensures.taken reserved same in
     let stopped : (at : Stop) → CallServed (around c.stop_before.new.state e) s c.in-Ok.end (stopped_at b at) t = λ at.
     call_served (around c.stop_before.new.state e) (stopped_at b at) s t c.in-Ok.end made.0 _ _ _ made.1 made.2
-    c.in_ok-send_made.ensures.taken same in
+    c.in_ok-send_made.ensures.taken reserved same in
     call_made (asked_by c.args.state.now) a b s t c.in-Ok.end c.read_register-number.result c.stop_behind.result c.in-None.is
     (subst (λ (n : ℕ). PassesBefore (asked_by c.args.state.now) a n) number passed.1)
     (λ at. subst (λ (x : Around). CallServed x s c.in-Ok.end (stopped_at b at) t) passed.0 (stopped at))

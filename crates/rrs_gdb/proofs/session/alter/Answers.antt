@@ -11,7 +11,7 @@ returns-then-not-is_changed-clause-sets g c =
 pub returns-then-not-is_changed-clause-error : goal.returns-then-not-is_changed-clause-error
 returns-then-not-is_changed-clause-error g c = λ error. (
   OnFalse_at c.if-not-is_changed.true c.in_ok-is_changed.ensures.done.none,
-  record { stops_kept = refl; watches_kept = refl; settings_kept = refl; history_kept = refl },
+  record { stops_kept = refl; watches_kept = refl; settings_kept = refl; history_kept = refl; reserved_kept = refl },
 )
 
 pub returns-clause-places : goal.returns-clause-places
@@ -23,7 +23,7 @@ returns-clause-sets g c = sets_behind _ _ _ _ _ _ c.in_ok-push_text.ensures c.in
 pub returns-then-not-is_changed-clause-forgets : goal.returns-then-not-is_changed-clause-forgets
 returns-then-not-is_changed-clause-forgets g c = inr (
   OnFalse_at c.if-not-is_changed.true c.in_ok-is_changed.ensures.done.none,
-  record { stops_kept = refl; watches_kept = refl; settings_kept = refl; history_kept = refl },
+  record { stops_kept = refl; watches_kept = refl; settings_kept = refl; history_kept = refl; reserved_kept = refl },
 )
 
 pub returns-clause-forgets : goal.returns-clause-forgets

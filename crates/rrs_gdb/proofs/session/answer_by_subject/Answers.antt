@@ -6,13 +6,13 @@ use Rattle.rrs_gdb.proofs.session.answer_by_subject.Goals as goal
 pub returns-in-Shown-clause-leaves : goal.returns-in-Shown-clause-leaves
 returns-in-Shown-clause-leaves g c =
     leaves_all _ _ _ c.show.ensures.kept refl
-    (record { stops_kept = refl; watches_kept = refl; settings_kept = refl; history_kept = refl })
+    (record { stops_kept = refl; watches_kept = refl; settings_kept = refl; history_kept = refl; reserved_kept = refl })
 
 pub returns-in-Shown-clause-means : goal.returns-in-Shown-clause-means
 returns-in-Shown-clause-means g c =
     behind_answer _ c.reply_behind.result c.show.result c.reply_behind.ensures.whole
     (means_shown_ok c.show.result _ _ _ c.in-Shown.ensures c.show.ensures.kept refl
-    (record { stops_kept = refl; watches_kept = refl; settings_kept = refl; history_kept = refl }) c.show.ensures.shown)
+    (record { stops_kept = refl; watches_kept = refl; settings_kept = refl; history_kept = refl; reserved_kept = refl }) c.show.ensures.shown)
 
 pub returns-in-Changed-clause-leaves : goal.returns-in-Changed-clause-leaves
 returns-in-Changed-clause-leaves g c =

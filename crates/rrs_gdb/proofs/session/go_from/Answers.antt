@@ -50,7 +50,7 @@ returns-in_default-clause-places g c =
 pub returns-in_default-clause-error : goal.returns-in_default-clause-error
 returns-in_default-clause-error g c =
     always _ c.refuse.result
-    (λ _. (refl, refl, record { stops_kept = refl; watches_kept = refl; settings_kept = refl; history_kept = refl }))
+    (λ _. (refl, refl, record { stops_kept = refl; watches_kept = refl; settings_kept = refl; history_kept = refl; reserved_kept = refl }))
 
 pub returns-then-not-begin_at-clause-places : goal.returns-then-not-begin_at-clause-places
 returns-then-not-begin_at-clause-places g c = c.begin_at.ensures.places
