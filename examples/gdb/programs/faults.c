@@ -1,7 +1,6 @@
 #include "start.h"
 
 volatile int which;
-char bytes[8];
 int *nowhere;
 
 static void store(int *place) {
@@ -17,7 +16,7 @@ int main(int count, char **words) {
     if (which == 1)
         store(nowhere);
     if (which == 2)
-        store((int *)(bytes + 1));
+        ((void (*)(void))((char *)illegal + 2))();
     if (which == 3)
         illegal();
     if (which == 4)
