@@ -24,6 +24,13 @@ SITES = (
         "The crates are for Rust 1.85, in which `str` itself has no such function.",
     ),
     (
+        "rrs_files/src/host_opening.rt",
+        "options.mode(how.mode);",
+        "options.mode(how.mode).neither_waits_nor_follows();",
+        "These flags Rattle's library has no word for. So no FIFO that is put in the place of a file"
+        " after that was looked at is waited for, and no link followed.",
+    ),
+    (
         "rrs_files/src/host_directory.rt",
         "str::from_utf8(&name)",
         "core::str::from_utf8(&name)",

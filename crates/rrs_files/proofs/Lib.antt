@@ -1,3 +1,7 @@
+pub mod AllowedActs
+pub mod AllowedCalls
+pub mod AllowedTransfers
+pub mod AllowedVectors
 pub mod Buffers
 pub mod Lent
 pub mod Listing

@@ -76,13 +76,13 @@ denying (There status) asked only =
     else (if bit_and status.mode (bit_and asked 7 * 64) == bit_and asked 7 * 64 then None
     else Some (error 13)))
 
--- a change of a file that files that may only be read don't have; the others are the host's to
--- refuse, where the file is not open to be written
-abbrev pub needs_right : Change → Bool
-needs_right (Change.Mode mode) = true
-needs_right (Change.Length length) = false
-needs_right Change.Flush = false
-needs_right Change.FlushBytes = false
+-- why a file is not changed where files may only be read, if it isn't: it has no other mode (EROFS
+-- is 30), and it is not open to be written, as a change of its length wants (EINVAL is 22)
+abbrev pub withholding : (is_read_only : Bool) → Change → Option ℕ
+withholding only (Change.Mode mode) = if only then Some (error 30) else None
+withholding only (Change.Length length) = if only then Some (error 22) else None
+withholding only Change.Flush = None
+withholding only Change.FlushBytes = None
 
 -- The answer to a command of fcntl64 on a descriptor with these flags. It is 0 to F_GETFD (1) and
 -- F_SETFD (2), since no program is started for which a descriptor would be closed; the flags to
@@ -239,11 +239,11 @@ module _ {F : Type 0} (did : Did F) where
         → Changes descriptor change old new answer
     MayNotChange : (place : ℕ)
         → IsOpen old.descriptors.files descriptor place
-        → (old.is_read_only && needs_right change) ≡ true
-        → new ≡ old → answer ≡ error 30 → Changes descriptor change old new answer
+        → withholding old.is_read_only change ≡ Some answer
+        → new ≡ old → Changes descriptor change old new answer
     IsChanged : (place : ℕ) (folder : F) (failed : Option ℕ)
         → IsOpen old.descriptors.files descriptor place
-        → (old.is_read_only && needs_right change) ≡ false
+        → withholding old.is_read_only change ≡ None
         → did old.folder (Changed place change failed) folder
         → new ≡ record old { folder = folder } → answer ≡ unwrap_or failed 0
         → Changes descriptor change old new answer

@@ -28,7 +28,7 @@ use Rattle.rrs_files.specs.declared.statuses.Form.{Form}
 use Rattle.rrs_files.specs.Acts.{Opens, Closes, ClosesStream, Copies, CopiesTo, Changes, Owns, ChangesName, Renames, Tests, Controls, ControlsDevice}
 use Rattle.rrs_files.specs.Descriptors.{IsOpen, IsClosed, is_closed_stream, may_write}
 use Rattle.rrs_files.specs.Entries.{ReadsDirectory}
-use Rattle.rrs_files.specs.Events.{Did, Gave, LinkTold, Looked, Took, Sought, Told}
+use Rattle.rrs_files.specs.Events.{Allowed, Did, Gave, LinkTold, Looked, Took, Sought, Told}
 use Rattle.rrs_files.specs.Paths.{IsText, IsAllowed, IsForbidden, Walks, kind}
 use Rattle.rrs_files.specs.Requests.{AsksFile}
 use Rattle.rrs_files.specs.Statuses.{stream_bytes, told_bytes}
@@ -161,6 +161,12 @@ pub data MovesBack {F : Type 0} (did : Did F) (place : ℕ) (from : Option ℕ) 
       → 0 < left → from ≡ None → did old (Sought place 1 (2 ^ 64 - left) moved) new
       → MovesBack did place from left old new
 
+-- a write by a descriptor that is open is refused (EBADF is 9): files may only be read, or it is
+-- open to be read alone
+abbrev pub refuses_write : {F : Type 0} → Files F → (descriptor : ℕ) → Bool
+refuses_write files descriptor =
+    files.is_read_only || not (may_write files.descriptors.flags descriptor)
+
 -- By what a folder says of a call, and by the bytes of memory, which stay:
 module _ {F : Type 0} (did : Did F) (bytes : ByteMap) where
   -- write and, from an offset, pwrite64: at once, so many bytes at most, from a on
@@ -170,19 +176,25 @@ module _ {F : Type 0} (did : Did F) (bytes : ByteMap) where
         IsClosed old.descriptors.files descriptor
         → new ≡ old → accesses ≡ [] → answer ≡ error 9
         → WritesFile descriptor from a count old new answer accesses
+    MayNotWrite : (place : ℕ)
+        → IsOpen old.descriptors.files descriptor place → refuses_write old descriptor ≡ true
+        → new ≡ old → accesses ≡ [] → answer ≡ error 9
+        → WritesFile descriptor from a count old new answer accesses
     WritePassesEnd : (place : ℕ)
-        → IsOpen old.descriptors.files descriptor place → 2 ^ 32 < a + count
+        → IsOpen old.descriptors.files descriptor place → refuses_write old descriptor ≡ false
+        → 2 ^ 32 < a + count
         → new ≡ old → accesses ≡ [] → answer ≡ error 14
         → WritesFile descriptor from a count old new answer accesses
     -- the first byte is not mapped
     IsUnmapped : (place : ℕ)
-        → IsOpen old.descriptors.files descriptor place → a + count ≤ 2 ^ 32
-        → 0 < count → bytes a ≡ None
+        → IsOpen old.descriptors.files descriptor place → refuses_write old descriptor ≡ false
+        → a + count ≤ 2 ^ 32 → 0 < count → bytes a ≡ None
         → new ≡ old → accesses ≡ byte_reads bytes a 1 → answer ≡ error 14
         → WritesFile descriptor from a count old new answer accesses
     IsWritten : (place : ℕ) (folder : F) (text : List ℕ) (reads : ℕ) (taken : Result ℕ ℕ)
-        → IsOpen old.descriptors.files descriptor place → a + count ≤ 2 ^ 32
-        → Stands bytes a text → ReadsBuffer bytes a (min count most_of_file) text reads
+        → IsOpen old.descriptors.files descriptor place → refuses_write old descriptor ≡ false
+        → a + count ≤ 2 ^ 32 → Stands bytes a text
+        → ReadsBuffer bytes a (min count most_of_file) text reads
         → did old.folder (Took place from text taken) folder
         → new ≡ record old { folder = folder } → accesses ≡ byte_reads bytes a reads
         → answer ≡ taken_of taken
@@ -205,15 +217,13 @@ pub data WritesFilePieces {F : Type 0} (did : Did F) (bytes : ByteMap) (descript
   NotOpenToWritePieces :
       IsClosed old.descriptors.files descriptor → new ≡ old → accesses ≡ [] → answer ≡ error 9
       → WritesFilePieces did bytes descriptor a count old new answer accesses
-  -- it is open to be read alone (O_RDONLY is 0): the vector is not looked at
-  IsOpenToRead : (place : ℕ)
-      → IsOpen old.descriptors.files descriptor place
-      → may_write old.descriptors.flags descriptor ≡ false
+  -- the vector is not looked at
+  MayNotWritePieces : (place : ℕ)
+      → IsOpen old.descriptors.files descriptor place → refuses_write old descriptor ≡ true
       → new ≡ old → accesses ≡ [] → answer ≡ error 9
       → WritesFilePieces did bytes descriptor a count old new answer accesses
   ArePiecesWritten : (place : ℕ)
-      → IsOpen old.descriptors.files descriptor place
-      → may_write old.descriptors.flags descriptor ≡ true
+      → IsOpen old.descriptors.files descriptor place → refuses_write old descriptor ≡ false
       → WritesVector (takes_of_file did descriptor) bytes a count old new answer accesses
       → WritesFilePieces did bytes descriptor a count old new answer accesses
 
@@ -506,14 +516,16 @@ abbrev pub asks_closed : State → List Bool → Bool
 asks_closed s are_closed = is_closed_stream are_closed (reg s 10) && is_of_stream (reg s 17)
 
 -- What a call does: it is one for the files, which the machine goes on after, with the answer in
--- a0; or it is one on a stream that the program closed; or it is for the other environment, and the
--- files stay.
+-- a0, and of which each call of the host changes nothing where files may only be read; or it is one
+-- on a stream that the program closed; or it is for the other environment, and the files stay.
 pub data ServesFiles {P F : Type 0} (serves : Relation P) (did : Did F) (old : WithFiles P F)
     (s : State) (new : WithFiles P F) (t : State) (accesses : List Access) (end : Option ℕ)
     : Type 0 where
   IsFile : (request : FileRequest) (bytes : ByteMap) (answer : ℕ)
       → AsksFile s (Some request)
-      → DoesFile did s.writable s.bytes bytes request old.files new.files answer accesses
+      → DoesFile (Allowed did old.files.is_read_only) s.writable s.bytes bytes request
+      old.files new.files answer accesses
+      → new.files.is_read_only ≡ old.files.is_read_only
       → t ≡ answered (record s { bytes = bytes }) answer → end ≡ None
       → new.process.now ≡ old.process.now
       → ServesFiles serves did old s new t accesses end

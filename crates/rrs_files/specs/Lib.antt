@@ -8,6 +8,7 @@ pub mod Paths
 pub mod Statuses
 pub mod Requests
 pub mod Entries
+pub mod HostOpens
 pub mod Acts
 pub mod Calls
 pub mod Runs

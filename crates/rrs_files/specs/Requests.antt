@@ -2,7 +2,7 @@
 -- rrs_linux restates it; the numbers are those of asm-generic/unistd.h). A call on a descriptor
 -- from 0 to 2, but for close, fcntl64 and those that take a path, is for the standard streams, and
 -- so for the other environment, as is each call that is not here.
-use Rattle.std.specs.Prelude.{◌≡◌, ◌≢◌, ◌⊎◌, ℕ, ◌+◌, ◌*◌, ◌^◌, ◌<◌, ◌≤◌, ◌==◌, ◌||◌, not, bit_and, Bool, true, false, Option, Some, None}
+use Rattle.std.specs.Prelude.{◌≡◌, ◌≢◌, ◌⊎◌, ℕ, ◌+◌, ◌*◌, ◌^◌, ◌<◌, ◌≤◌, ◌==◌, ◌&&◌, ◌||◌, not, bit_and, Bool, true, false, Option, Some, None}
 use Rattle.rrs_lib.specs.Machine.{State, reg}
 use Rattle.rrs_linux.specs.Requests.{are_flags, are_statx_flags, error}
 use Rattle.rrs_files.specs.declared.folder.Change.TheVariants.{Length, Flush, FlushBytes, Mode}
@@ -152,12 +152,14 @@ AsksFile s request =
 -- ---- the flags of openat
 
 -- How a file is opened by flags and a mode (fcntl.h): O_WRONLY is 1, O_RDWR 2, O_CREAT 0x40, O_EXCL
--- 0x80, O_TRUNC 0x200, O_APPEND 0x400 and O_DIRECTORY 0x10000. The other flags change nothing here.
+-- 0x80, O_TRUNC 0x200, O_APPEND 0x400 and O_DIRECTORY 0x10000. The other flags change nothing here,
+-- and O_APPEND nothing of a file that is open to be read alone (O_RDONLY is 0): only a write is at
+-- the end.
 abbrev pub how_of : (flags mode : ℕ) → How
 how_of flags mode = record {
   reads = bit_and flags 1 == 0;
   writes = not (bit_and flags 3 == 0);
-  appends = not (bit_and flags 0x400 == 0);
+  appends = not (bit_and flags 0x400 == 0) && not (bit_and flags 3 == 0);
   creates = not (bit_and flags 0x40 == 0);
   is_new = not (bit_and flags 0x80 == 0);
   truncates = not (bit_and flags 0x200 == 0);
@@ -174,4 +176,4 @@ not_served flags =
 
 -- what changes files
 abbrev pub changes : How → Bool
-changes how = how.writes || how.creates || how.truncates
+changes how = how.writes || how.appends || how.creates || how.truncates

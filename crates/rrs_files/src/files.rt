@@ -1,7 +1,7 @@
 //! The files of a program, and what the calls do to them whose path is read.
 
 ghost use Rattle.std.specs.Prelude.{◌≡◌, ◌&&◌};
-ghost use Rattle.rrs_files.specs.Acts.{Changes, ChangesName, Closes, ClosesStream, Controls, ControlsDevice, Copies, CopiesTo, Opens, Owns, Renames, Tests, control_answer, denying, keeping, keeps, moving, needs_right, opening, owning, replacing, stream_flags, timing};
+ghost use Rattle.rrs_files.specs.Acts.{Changes, ChangesName, Closes, ClosesStream, Controls, ControlsDevice, Copies, CopiesTo, Opens, Owns, Renames, Tests, control_answer, denying, keeping, keeps, moving, opening, owning, replacing, stream_flags, timing, withholding};
 ghost use Rattle.rrs_files.specs.Requests.{changes, not_served};
 
 use crate::descriptors::{Descriptors, END, FIRST, descriptor_at};
@@ -48,7 +48,7 @@ pub struct Files<F> {
     pub folder: F,
     /// The descriptors that are open.
     pub descriptors: Descriptors,
-    /// Whether files may only be read.
+    /// Whether files may only be read. Then no call of the folder is made that changes anything.
     pub is_read_only: bool,
 }
 
@@ -157,10 +157,10 @@ impl<F: Folder> Files<F> {
         let Some(place) = self.descriptors.file_of(descriptor) else {
             return BAD_DESCRIPTOR;
         };
-        if is_kept(self.is_read_only, change) {
-            return READ_ONLY;
+        match withholding(self.is_read_only, change) {
+            Some(error) => error,
+            None => self.folder.change(place, change).unwrap_or(0),
         }
-        self.folder.change(place, change).unwrap_or(0)
     }
 
     /// Whether the file of a descriptor has an owner and a group already: the answer of the call
@@ -262,11 +262,11 @@ fn is_kept_out(is_read_only: bool, how: How) -> bool
 fn changes(how: How) -> bool
     ensures { result ≡ changes how }
 {
-    how.writes || how.creates || how.truncates
+    how.writes || how.appends || how.creates || how.truncates
 }
 
 /// Why what a path names isn't opened, if it isn't.
-fn opening(named: Named, how: How) -> Option<u32>
+pub fn opening(named: Named, how: How) -> Option<u32>
     ensures { result ≡ opening named how }
 {
     let status = match named {
@@ -290,11 +290,15 @@ fn opening(named: Named, how: How) -> Option<u32>
     }
 }
 
-/// Whether files may only be read, and don't have a change then.
-fn is_kept(is_read_only: bool, change: Change) -> bool
-    ensures { result ≡ (is_read_only && needs_right change) }
+/// Why a file is not changed where files may only be read, if it isn't.
+fn withholding(is_read_only: bool, change: Change) -> Option<u32>
+    ensures { result ≡ withholding is_read_only change }
 {
-    is_read_only && matches!(change, Change::Mode(_))
+    match change {
+        Change::Mode(_) if is_read_only => Some(READ_ONLY),
+        Change::Length(_) if is_read_only => Some(BAD_ARGUMENT),
+        _ => None,
+    }
 }
 
 /// The answer of a call that gives what has this status an owner and a group: it has them, or it

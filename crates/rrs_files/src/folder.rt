@@ -48,7 +48,7 @@ pub struct How {
     pub reads: bool,
     /// To be written.
     pub writes: bool,
-    /// Each write is at its end.
+    /// Each write is at its end. What is not opened to be written has none.
     pub appends: bool,
     /// It is made if it is not there.
     pub creates: bool,

@@ -2,12 +2,13 @@
 //!
 //! As of a folder of the host, what is read, and with which paths, is believed.
 
-ghost use Rattle.std.specs.Prelude.{◌≤◌, IfSome};
+ghost use Rattle.std.specs.Prelude.{◌≡◌, ◌↔◌, ◌+◌, ◌-◌, ◌≤◌, ◌<◌, IfOk, IfSome, IsErr, IsOk, sum_by};
+ghost use Rattle.rrs_files.specs.HostOpens.{entry_room, taken_of};
 
 use crate::folder::{Entry, NAME_BYTES};
 use std::alloc::Global;
 use std::fs::Metadata;
-use std::io::{self, Read};
+use std::io::{self, ErrorKind, Read};
 use std::os::unix::fs::MetadataExt;
 use std::rt::Files;
 
@@ -16,6 +17,16 @@ pub const BAD_ARGUMENT: u32 = 0xffff_ffea;
 
 /// How many bytes of names are read at once, each ended by a 0.
 const NAMES: usize = 4096;
+
+/// What an entry takes, beside the bytes of its name. A vector that grows has up to twice as many
+/// places, and a name has its own.
+const ENTRY: u64 = 128;
+
+/// The number of what a name can't be looked at, as Linux has it where a file system tells none.
+const UNKNOWN: u64 = 0xffff_ffff;
+
+/// The error of a name that is gone, `ENOENT` (2).
+const GONE: i32 = 2;
 
 /// A directory that is open, and its entries.
 #[derive(Drop)]
@@ -29,6 +40,8 @@ pub struct HostDirectory {
     position: u64,
     /// Its entries, as they were when they were read last.
     entries: Vec<Listed>,
+    /// How many bytes they take.
+    taken: u64,
 }
 
 /// An entry of a directory.
@@ -57,6 +70,16 @@ impl Listed {
             name,
         }
     }
+
+    /// A name of what the host does not tell of, as in a directory that may be read alone: neither
+    /// its kind nor its number is known.
+    fn untold(name: String) -> Listed {
+        Listed {
+            number: UNKNOWN,
+            kind: 0,
+            name,
+        }
+    }
 }
 
 impl HostDirectory {
@@ -71,7 +94,15 @@ impl HostDirectory {
             number: told.ino(),
             position: 0,
             entries: Vec::new(alloc),
+            taken: 0,
         })
+    }
+
+    /// How many bytes its entries take.
+    pub fn taken(&self) -> u64
+        ensures { result ≡ self.now.taken }
+    {
+        self.taken
     }
 
     /// Whether none of its entries was read as yet.
@@ -79,9 +110,19 @@ impl HostDirectory {
         self.entries.is_empty()
     }
 
-    /// Reads its entries, below this folder. Its path has to name it still, so that what is there
-    /// in its place, such as a link, is not read.
-    pub fn read_anew<H: Files>(&mut self, host: &H, alloc: Global, top: &str) -> io::Result<()> {
+    /// Reads its entries, below this folder, where there is room for them: else its entries stay as
+    /// they are. Its path has to name it before and after, so that what is there in its place, such
+    /// as a link, is not told.
+    pub fn read_anew<H: Files>(
+        &mut self,
+        host: &H,
+        alloc: Global,
+        top: &str,
+        room: u64,
+    ) -> io::Result<()>
+        ensures within { IsOk result → self.new.taken ≤ room }
+        ensures kept { IsErr result → self.new ≡ self.old }
+    {
         let path = self.path.as_str();
         if !self.is_at(host, path)? {
             return Err(io::Error::from_raw_os_error(2));
@@ -91,17 +132,26 @@ impl HostDirectory {
         } else {
             std::fs::symlink_metadata(host, parent_of(path))?.ino()
         };
+        let left = room_after(room, 1)?;
+        let mut left = room_after(left, 2)?;
         let mut entries = Vec::new(alloc);
         entries.push(Listed::directory(String::from_str(alloc, ".")?, self.number))?;
         entries.push(Listed::directory(String::from_str(alloc, "..")?, above))?;
-        for name in names_in(host, alloc, path)? {
+        for name in names_in(host, alloc, path, &mut left)? {
             let whole = format!(in alloc; "{path}/{name}")?;
-            // what is gone since is left out
-            if let Ok(told) = std::fs::symlink_metadata(host, &whole) {
-                entries.push(Listed::new(name, &told))?;
+            match std::fs::symlink_metadata(host, &whole) {
+                Ok(told) => entries.push(Listed::new(name, &told))?,
+                // what is gone since is left out
+                Err(error) if error.raw_os_error() == Some(GONE) => {}
+                Err(_) => entries.push(Listed::untold(name))?,
             }
         }
+        // what was listed in between was another's
+        if !self.is_at(host, path)? {
+            return Err(io::Error::from_raw_os_error(2));
+        }
         self.entries = entries;
+        self.taken = room - left;
         Ok(())
     }
 
@@ -160,9 +210,41 @@ fn parent_of(path: &str) -> &str {
     rest
 }
 
-/// The names in a directory but for `.` and `..`, in their order. One that is not UTF-8 is left
-/// out.
-fn names_in<H: Files>(host: &H, alloc: Global, path: &str) -> io::Result<Vec<String>> {
+/// How much of some room the entries of open directories leave.
+pub fn left_by(directories: &[Option<HostDirectory>], room: u64) -> u64
+    ensures { result ≡ room - sum_by taken_of directories.now }
+{
+    let mut left = room;
+    for place in directories {
+        if let Some(directory) = place {
+            left = left.saturating_sub(directory.taken());
+        }
+    }
+    left
+}
+
+/// How much room is left where an entry is listed whose name has so many bytes. Without so much it
+/// is an error: there is no memory.
+fn room_after(left: u64, size: usize) -> io::Result<u64>
+    ensures listed { IfOk result (λ after. after + entry_room size ≡ left) }
+    ensures refused { IsErr result ↔ left < entry_room size }
+{
+    match ENTRY.checked_add(size as u64) {
+        Some(entry) if entry <= left => Ok(left - entry),
+        _ => Err(io::Error::from(ErrorKind::OutOfMemory)),
+    }
+}
+
+/// The names in a directory but for `.` and `..`, in their order, where there is room to list them.
+/// One that is not UTF-8 is left out.
+fn names_in<H: Files>(
+    host: &H,
+    alloc: Global,
+    path: &str,
+    left: &mut u64,
+) -> io::Result<Vec<String>>
+    ensures { left.new ≤ left.old }
+{
     let path = format!(in alloc; "{path}/")?;
     let mut directory = host.open_dir(&path)?;
     let mut names = Vec::new(alloc);
@@ -172,14 +254,21 @@ fn names_in<H: Files>(host: &H, alloc: Global, path: &str) -> io::Result<Vec<Str
         if size == 0 {
             break;
         }
-        take_names(alloc, &room[..size], &mut names)?;
+        take_names(alloc, &room[..size], &mut names, left)?;
     }
     names.sort_unstable();
     Ok(names)
 }
 
-/// Takes names of which each is ended by a 0.
-fn take_names(alloc: Global, bytes: &[u8], names: &mut Vec<String>) -> io::Result<()> {
+/// Takes names of which each is ended by a 0, where there is room to list them.
+fn take_names(
+    alloc: Global,
+    bytes: &[u8],
+    names: &mut Vec<String>,
+    left: &mut u64,
+) -> io::Result<()>
+    ensures { left.new ≤ left.old }
+{
     let mut name = Vec::new(alloc);
     for byte in bytes {
         if *byte != 0 {
@@ -188,6 +277,7 @@ fn take_names(alloc: Global, bytes: &[u8], names: &mut Vec<String>) -> io::Resul
         }
         if let Ok(text) = str::from_utf8(&name) {
             if text != "." && text != ".." {
+                *left = room_after(*left, text.len())?;
                 names.push(String::from_str(alloc, text)?)?;
             }
         }

@@ -1,17 +1,18 @@
 //! A folder of the host, over the files of a runtime.
 //!
 //! The library's contracts of files say nothing of what a call does. So what this module does is
-//! believed: that each function makes the call of the host that it names, with the path below the
+//! believed: that each function makes the calls of the host that it names, with the path below the
 //! folder, and no other.
 
 use crate::folder::{
     Change, Entry, Folder, How, LINK_BYTES, Moment, NAME_BYTES, NameChange, Status,
 };
-use crate::host_directory::{BAD_ARGUMENT, HostDirectory};
+use crate::host_directory::{BAD_ARGUMENT, HostDirectory, left_by};
+use crate::host_opening::{TO_READ, open_at};
 use std::alloc::Global;
-use std::fs::{DirBuilder, FileTimes, Metadata, OpenFile, OpenOptions, Permissions};
+use std::fs::{DirBuilder, FileTimes, Metadata, OpenFile, Permissions};
 use std::io::{self, ErrorKind, Read, Seek, SeekFrom, Write};
-use std::os::unix::fs::{DirBuilderExt, MetadataExt, OpenOptionsExt, PermissionsExt};
+use std::os::unix::fs::{DirBuilderExt, MetadataExt, PermissionsExt};
 use std::rt::Files;
 use std::time::{Duration, SystemTime};
 
@@ -41,15 +42,18 @@ pub struct HostFolder<'h, 'p, H: Files> {
     files: Vec<Option<H::File>>,
     /// Of these, the entries of those that are directories.
     directories: Vec<Option<HostDirectory>>,
+    /// How many bytes all these entries may take.
+    room: u64,
 }
 
 impl<'h, 'p, H: Files + AllocGlobal> HostFolder<'h, 'p, H> {
-    /// The folder that a path of the host names, of which no file is open.
+    /// The folder that a path of the host names, of which no file is open. What open directories
+    /// list may take so many bytes, 128 for an entry beside those of its name.
     ///
     /// # Errors
     ///
     /// The host can't find it, or has no memory.
-    pub fn new(host: &'h H, path: &'p str) -> io::Result<HostFolder<'h, 'p, H>> {
+    pub fn new(host: &'h H, path: &'p str, room: u64) -> io::Result<HostFolder<'h, 'p, H>> {
         if !std::fs::metadata(host, path)?.is_dir() {
             return Err(io::Error::from(ErrorKind::NotADirectory));
         }
@@ -66,6 +70,7 @@ impl<'h, 'p, H: Files + AllocGlobal> HostFolder<'h, 'p, H> {
             path,
             files,
             directories,
+            room,
         })
     }
 
@@ -89,11 +94,12 @@ impl<'h, 'p, H: Files + AllocGlobal> HostFolder<'h, 'p, H> {
 }
 
 /// The word that answers an error of the host.
-fn error_of(error: &io::Error) -> u32 {
+pub fn error_of(error: &io::Error) -> u32 {
     match error.raw_os_error() {
         Some(number) => number.cast_unsigned().wrapping_neg(),
         None => match error.kind() {
             ErrorKind::InvalidInput => BAD_ARGUMENT,
+            ErrorKind::OutOfMemory => NO_MEMORY,
             _ => HOST_FAILED,
         },
     }
@@ -123,7 +129,7 @@ fn placed<S: Seek>(file: &mut S, offset: Option<u64>) -> Result<Option<u64>, u32
 }
 
 /// The status of what the host tells.
-fn status_of(told: &Metadata) -> Status {
+pub fn status_of(told: &Metadata) -> Status {
     Status {
         device: told.dev(),
         number: told.ino(),
@@ -145,15 +151,27 @@ fn narrowed(number: u64) -> u32 {
     u32::try_from(number).unwrap_or(u32::MAX)
 }
 
-/// Sets the times of what a path of the host names, which is opened to be read.
-fn set_times<H: Files>(host: &H, path: &str, accessed: Moment, modified: Moment) -> io::Result<()> {
-    let times = FileTimes::new()
-        .set_accessed(time_of(accessed)?)
-        .set_modified(time_of(modified)?);
-    OpenOptions::new()
-        .read(true)
-        .open(host, path)?
-        .set_times(times)
+/// Sets the times of what a path of the host names, which is opened to be read. Gives the error, if
+/// there is one.
+fn set_times<H: Files>(host: &H, path: &str, accessed: Moment, modified: Moment) -> Option<u32> {
+    let times = match times_of(accessed, modified) {
+        Ok(times) => times,
+        Err(error) => return Some(error_of(&error)),
+    };
+    match open_at(host, path, TO_READ) {
+        Ok((file, _)) => failed(file.set_times(times)),
+        Err(error) => Some(error),
+    }
+}
+
+/// Two moments as the host sets them.
+fn times_of(accessed: Moment, modified: Moment) -> io::Result<FileTimes> {
+    let times = FileTimes::new();
+    Ok(
+        times
+            .set_accessed(time_of(accessed)?)
+            .set_modified(time_of(modified)?),
+    )
 }
 
 /// A moment as the host has it. One before 1970 is refused.
@@ -206,23 +224,11 @@ impl<'h, 'p, H: Files + AllocGlobal> Folder for HostFolder<'h, 'p, H> {
             Ok(path) => path,
             Err(error) => return Some(error),
         };
-        let mut options = OpenOptions::new();
-        options
-            .read(how.reads)
-            .write(how.writes)
-            .append(how.appends)
-            .create(how.creates)
-            .create_new(how.creates && how.is_new)
-            .truncate(how.truncates)
-            .mode(how.mode);
-        let file = match options.open(self.host, &path) {
-            Ok(file) => file,
-            Err(error) => return Some(error_of(&error)),
+        let (file, told) = match open_at(self.host, &path, how) {
+            Ok(open) => open,
+            Err(error) => return Some(error),
         };
-        let directory = match file.metadata() {
-            Ok(told) => HostDirectory::of(self.alloc, path, &told),
-            Err(error) => return Some(error_of(&error)),
-        };
+        let directory = HostDirectory::of(self.alloc, path, &told);
         if let Some(place) = self.files.get_mut(at) {
             *place = Some(file);
         }
@@ -303,11 +309,13 @@ impl<'h, 'p, H: Files + AllocGlobal> Folder for HostFolder<'h, 'p, H> {
         position: u64,
         room: &mut [u8; NAME_BYTES],
     ) -> Result<Option<Entry>, u32> {
+        let left = left_by(&self.directories, self.room);
         let Some(Some(directory)) = self.directories.get_mut(at) else {
             return Err(NO_DIRECTORY);
         };
         if position == 0 || directory.is_unread() {
-            if let Err(error) = directory.read_anew(self.host, self.alloc, self.path) {
+            let most = left.saturating_add(directory.taken());
+            if let Err(error) = directory.read_anew(self.host, self.alloc, self.path, most) {
                 return Err(error_of(&error));
             }
         }
@@ -341,16 +349,16 @@ impl<'h, 'p, H: Files + AllocGlobal> Folder for HostFolder<'h, 'p, H> {
             Ok(path) => path,
             Err(error) => return Some(error),
         };
-        failed(match change {
-            NameChange::Remove => std::fs::remove_file(self.host, &path),
-            NameChange::RemoveDirectory => std::fs::remove_dir(self.host, &path),
+        match change {
+            NameChange::Remove => failed(std::fs::remove_file(self.host, &path)),
+            NameChange::RemoveDirectory => failed(std::fs::remove_dir(self.host, &path)),
             NameChange::MakeDirectory(mode) => {
-                DirBuilder::new().mode(mode).create(self.host, &path)
+                failed(DirBuilder::new().mode(mode).create(self.host, &path))
             }
             NameChange::SetTimes(accessed, modified) => {
                 set_times(self.host, &path, accessed, modified)
             }
-        })
+        }
     }
 
     fn rename(&mut self, from: &[u8], to: &[u8]) -> Option<u32> {

@@ -13,6 +13,7 @@ mod files;
 mod folder;
 mod host_directory;
 mod host_folder;
+mod host_opening;
 mod paths;
 mod pieces;
 mod requests;

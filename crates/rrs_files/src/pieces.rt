@@ -1,9 +1,9 @@
 //! What is written to a file from memory: a buffer, or the pieces of a vector.
 
-ghost use Rattle.std.specs.Prelude.{◌≡◌, ◌<◌, true, false};
+ghost use Rattle.std.specs.Prelude.{◌≡◌, ◌<◌, ◌≤◌, true, false};
 ghost use Rattle.rrs_fast.specs.Serving.{MakesSome};
 ghost use Rattle.rrs_linux.specs.Vectors.{WritesVector};
-ghost use Rattle.rrs_files.specs.Calls.{WritesFile, WritesFilePieces, takes_lent, takes_of_file};
+ghost use Rattle.rrs_files.specs.Calls.{WritesFile, WritesFilePieces, refuses_write, takes_lent, takes_of_file};
 
 use crate::errors::{BAD_ADDRESS, BAD_DESCRIPTOR};
 use crate::files::Files;
@@ -32,6 +32,16 @@ impl<'a, F: Folder> Output for OpenFile<'a, F> {
 }
 
 impl<F: Folder> Files<F> {
+    /// Whether a write by a descriptor that is open is refused: files may only be read, or it is
+    /// open to be read alone.
+    fn refuses_write(&self, descriptor: u32) -> bool
+        requires first { 3 ≤ descriptor }
+        requires last { descriptor < 67 }
+        ensures { result ≡ refuses_write self.now descriptor }
+    {
+        self.is_read_only || !self.descriptors.may_write(descriptor)
+    }
+
     /// Writes to a descriptor from memory, and gives the answer of the call.
     pub(crate) fn write_from<M: Memory>(
         &mut self,
@@ -52,6 +62,9 @@ impl<F: Folder> Files<F> {
         let Some(place) = self.descriptors.file_of(descriptor) else {
             return BAD_DESCRIPTOR;
         };
+        if self.refuses_write(descriptor) {
+            return BAD_DESCRIPTOR;
+        }
         let Some(most) = most_of(address, count) else {
             return BAD_ADDRESS;
         };
@@ -87,7 +100,7 @@ impl<F: Folder> Files<F> {
         let Some(_place) = self.descriptors.file_of(descriptor) else {
             return BAD_DESCRIPTOR;
         };
-        if !self.descriptors.may_write(descriptor) {
+        if self.refuses_write(descriptor) {
             return BAD_DESCRIPTOR;
         }
         let mut file = OpenFile {

@@ -289,7 +289,7 @@ pub fn how_of(flags: u32, mode: u32) -> How
     How {
         reads: flags & 1 == 0,
         writes: flags & 3 != 0,
-        appends: flags & 0x400 != 0,
+        appends: flags & 0x400 != 0 && flags & 3 != 0,
         creates: flags & 0x40 != 0,
         is_new: flags & 0x80 != 0,
         truncates: flags & 0x200 != 0,

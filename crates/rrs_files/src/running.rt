@@ -20,7 +20,8 @@ use rrs_linux::{Heap, Linux};
 use std::alloc::Global;
 use std::io::{Read, Write};
 
-/// Runs a file's bytes as `execute_process` of `rrs_exec` does, in an environment with files.
+/// Runs a file's bytes as `execute_process` of `rrs_exec` does, in an environment with files. Where
+/// these may only be read, no call of the folder is made that changes anything.
 ///
 /// # Errors
 ///
@@ -58,9 +59,10 @@ pub fn execute_with_files<R: Read, W: Write, E: Write, F: Folder, P: Progress>(
     Ok(run_image(image, memory, limit, strict, environment, progress))
 }
 
-/// Runs a file's bytes as `execute_process` of `rrs_exec` does, with these files. They are closed at
-/// the end. It is `execute_with_files` for who has the process and the files apart, but its clauses
-/// do not say what the process is after a run.
+/// Runs a file's bytes as `execute_process` of `rrs_exec` does, with these files. They are closed
+/// at the end. Where they may only be read, no call of the folder is made that changes anything. It
+/// is `execute_with_files` for who has the process and the files apart, but its clauses do not say
+/// what the process is after a run.
 ///
 /// # Errors
 ///

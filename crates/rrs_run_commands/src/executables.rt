@@ -1,6 +1,6 @@
 //! Executables as the subcommands take them: read, run, and what is told where they fail.
 
-ghost use Rattle.std.specs.Prelude.{◌≡◌, None, IfSome, max, min};
+ghost use Rattle.std.specs.Prelude.{◌≡◌, None, IfOk, IfSome, max, min};
 ghost use Rattle.rrs_elf.specs.Executables.{IsExecutable};
 ghost use Rattle.rrs_exec.specs.Images.{needed_of};
 ghost use Rattle.rrs_run_commands.specs.Options.{usual_memory, most_unasked};
@@ -96,7 +96,7 @@ fn execute_bytes<'a, H: Files + AllocGlobal, R: Read, W: Write, E: Write, P: Pro
             progress,
         ));
     };
-    let files = files_below(rt, path, request.is_read_only)?;
+    let files = files_below(rt, path, request.is_read_only, wanted)?;
     Ok(execute_below(
         rt.alloc(),
         file,
@@ -111,7 +111,8 @@ fn execute_bytes<'a, H: Files + AllocGlobal, R: Read, W: Write, E: Write, P: Pro
     ))
 }
 
-/// The files below a folder, of which none is open.
+/// The files below a folder, of which none is open, and which may only be read where that is asked
+/// for. What open folders list may take so many bytes.
 ///
 /// # Errors
 ///
@@ -120,8 +121,11 @@ fn files_below<'h, 'a, H: Files + AllocGlobal>(
     rt: &'h H,
     path: &'a str,
     is_read_only: bool,
-) -> Result<ProgramFiles<HostFolder<'h, 'a, H>>, Refusal<'a>> {
-    match HostFolder::new(rt, path) {
+    room: u64,
+) -> Result<ProgramFiles<HostFolder<'h, 'a, H>>, Refusal<'a>>
+    ensures { IfOk result (λ files. files.is_read_only ≡ is_read_only) }
+{
+    match HostFolder::new(rt, path, room) {
         Ok(folder) => Ok(ProgramFiles {
             folder,
             descriptors: Descriptors::NONE,

@@ -24,7 +24,8 @@ static int opens(int *place, int flags, int mode)
     return *place = open(path, flags, mode);
 }
 
-// The names in a folder: how many bytes they have.
+// The names in a folder, but for one without a number, which readers leave out: how many bytes they
+// have, and 1000 times their kinds.
 static long long names(void)
 {
     DIR *folder = opendir(path);
@@ -34,7 +35,7 @@ static long long names(void)
         return -1;
     }
     while ((entry = readdir(folder))) {
-        size += strlen(entry->d_name) + 1000 * entry->d_type;
+        size += entry->d_ino ? strlen(entry->d_name) + 1000 * entry->d_type : 0;
     }
     closedir(folder);
     return size;

@@ -47,7 +47,49 @@ impl OpenOptions {
     pub fn open<R: Files>(&self, _: &R, path: &str) -> io::Result<R::File> {
         self.0.open(path).map(R::of)
     }
+
+    /// An open so waits for no other process, as that of a FIFO does, and follows no link as the last
+    /// part of the path: `O_NONBLOCK` and `O_NOFOLLOW`. Where their numbers are not known here it
+    /// changes nothing. Rattle's library has no such call.
+    pub fn neither_waits_nor_follows(&mut self) -> &mut OpenOptions {
+        #[cfg(unix)]
+        host::os::unix::fs::OpenOptionsExt::custom_flags(&mut self.0, WITHOUT_WAIT | WITHOUT_LINK);
+        self
+    }
 }
+
+/// What has the flags of Linux by their usual numbers.
+#[cfg(unix)]
+const IS_LINUX: bool = cfg!(any(target_os = "linux", target_os = "android"))
+    && cfg!(any(
+        target_arch = "x86",
+        target_arch = "x86_64",
+        target_arch = "arm",
+        target_arch = "aarch64",
+        target_arch = "riscv32",
+        target_arch = "riscv64"
+    ));
+
+/// `O_NONBLOCK`.
+#[cfg(unix)]
+const WITHOUT_WAIT: i32 = if IS_LINUX {
+    0o4000
+} else if cfg!(target_vendor = "apple") {
+    4
+} else {
+    0
+};
+
+/// `O_NOFOLLOW`.
+#[cfg(unix)]
+const WITHOUT_LINK: i32 = if IS_LINUX {
+    let is_of_arm = cfg!(any(target_arch = "arm", target_arch = "aarch64"));
+    if is_of_arm { 0o100000 } else { 0o400000 }
+} else if cfg!(target_vendor = "apple") {
+    0x100
+} else {
+    0
+};
 
 #[cfg(unix)]
 impl host::os::unix::fs::OpenOptionsExt for OpenOptions {

@@ -1,11 +1,11 @@
 use Rattle.std.proofs.Common.{◌≡◌, [], rules, refl, sym, subst, ◌∙◌}
-use Rattle.rrs_files.specs.Calls.{IsOpenToRead, ArePiecesWritten, WritesFilePieces}
+use Rattle.rrs_files.specs.Calls.{MayNotWritePieces, ArePiecesWritten, WritesFilePieces}
 use Rattle.rrs_files.proofs.files.Files.write_pieces_from.Goals as goal
 
-pub returns-then-not-may_write-clause-does : goal.returns-then-not-may_write-clause-does
-returns-then-not-may_write-clause-does g c = record {
+pub returns-then-refuses_write-clause-does : goal.returns-then-refuses_write-clause-does
+returns-then-refuses_write-clause-does g c = record {
   accesses = [];
-  these = IsOpenToRead c.in-Some._place c.in-Some.ensures (sym c.may_write.ensures ∙ c.if-not-may_write.true) refl
+  these = MayNotWritePieces c.in-Some._place c.in-Some.ensures (sym c.refuses_write.ensures ∙ c.if-refuses_write.true) refl
       refl refl;
   made = refl;
 }
@@ -18,7 +18,7 @@ returns-clause-does g c =
       accesses = wrote.accesses;
       these = subst (λ files. WritesFilePieces g.F.Folder.did (g.M.Memory.bytes c.args.memory.now) c.args.descriptor
           c.args.address c.args.count c.args.self.now files c.write_lent.result wrote.accesses) (sym same)
-          (ArePiecesWritten c.in-Some._place c.in-Some.ensures (sym c.may_write.ensures ∙ c.if-not-may_write.false)
+          (ArePiecesWritten c.in-Some._place c.in-Some.ensures (sym c.refuses_write.ensures ∙ c.if-refuses_write.false)
           wrote.these);
       made = wrote.made;
     }

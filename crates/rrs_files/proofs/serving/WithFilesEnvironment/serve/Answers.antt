@@ -1,7 +1,8 @@
-use Rattle.std.proofs.Common.{◌≡◌, [], refl, sym, ◌∙◌}
+use Rattle.std.proofs.Common.{[], refl, sym, ◌∙◌}
 use Rattle.rrs_lib.specs.Machine.{state_of}
 use Rattle.rrs_linux.specs.SystemCalls.{answered}
 use Rattle.rrs_files.specs.Calls.{IsFile, IsOfClosed, IsOther}
+use Rattle.rrs_files.proofs.AllowedCalls.{allowed}
 use Rattle.rrs_files.proofs.serving.WithFilesEnvironment.serve.Goals as goal
 
 pub returns-then-asks_closed-clause-served : goal.returns-then-asks_closed-clause-served
@@ -37,9 +38,12 @@ returns-in-Some-clause-served g c =
     let hart = c.args.executor.now.hart_state.now in
     let kept = c.perform-answer.ensures.writable_kept in
     let bytes = memory.bytes c.perform-answer.new.memory in
+    let harmless = allowed g.F.Folder.did (memory.writable c.args.executor.now.mem.now)
+    (memory.bytes c.args.executor.now.mem.now) bytes c.args.self.now.files c.perform-answer.new.self
+    c.perform-answer.result c.in-Some.request did.accesses did.these in
     record {
       accesses = did.accesses;
-      these = IsFile c.in-Some.request bytes c.perform-answer.result (c.in-Some.ensures (g.M.Memory.bytes c.args.executor.now.mem.now) (g.M.Memory.writable c.args.executor.now.mem.now)) did.these
+      these = IsFile c.in-Some.request bytes c.perform-answer.result (c.in-Some.ensures (g.M.Memory.bytes c.args.executor.now.mem.now) (g.M.Memory.writable c.args.executor.now.mem.now)) harmless.0 harmless.1
           (went.answered _ _ ∙ (λ i. answered (state_of hart bytes (kept i)) c.perform-answer.result)) went.goes_on
           refl;
       made = did.made;
