@@ -1,5 +1,5 @@
 -- What is made of a source as the words of `rrs as` say.
-use Rattle.std.specs.Prelude.{ℕ, List, Option, Some, None}
+use Rattle.std.specs.Prelude.{ℕ, ◌≡◌, List, Option, Some, None, IfSome}
 use Rattle.std.specs.Option.{option_map_or}
 use Rattle.std.specs.declared.alloc.Global.{Global}
 use Rattle.rrs_asm.specs.declared.sections.Layout.{Layout}
@@ -9,7 +9,9 @@ use Rattle.rrs_asm.specs.Sections.{flat, AreSectionsOf, IsImage}
 use Rattle.rrs_asm_output.specs.Executables.{IsExecutableOf}
 use Rattle.rrs_asm_macros.specs.Comments.{without_comments}
 use Rattle.rrs_asm_macros.specs.Expansion.{Becomes}
+use Rattle.rrs_run_commands.specs.declared.places.Told.{Told}
 use Rattle.rrs_run_commands.specs.Requests.{Wanted}
+use Rattle.rrs_run_commands.specs.WrittenFiles.{IsNamed, path_in}
 use Rattle.rrs_commands.specs.Files.{Includes}
 
 -- Where sections lie where no word says it. An executable has its first section at 0x10000, and
@@ -45,3 +47,10 @@ IsImageFrom layout source bytes =
     × (whole : List ℕ) × Includes text whole
     × (sections : List (Section Global)) × AreSectionsOf layout (items_of whole) sections
     × IsImage layout.text_start sections bytes
+
+-- what the host tells of the source and of the file that is written has them apart
+abbrev pub IsToldApart : Wanted → Type 0
+IsToldApart wanted =
+    (source : Option Told) × (path_in source ≡ wanted.file)
+    × (output : Option Told) × (path_in output ≡ wanted.output)
+    × IfSome output (λ file. IsNamed source file → ⊥)

@@ -1,6 +1,6 @@
 //! What is made of a source of RISC-V.
 
-ghost use Rattle.std.specs.Prelude.{◌≡◌, [], None, IsSome, MatchOption, IfOk};
+ghost use Rattle.std.specs.Prelude.{◌≡◌, [], None, IsSome, MatchOption, IfOk, OnOk};
 ghost use Rattle.rrs_asm.specs.declared.sections.Layout.{Layout};
 ghost use Rattle.rrs_asm.specs.Source.{items_of};
 ghost use Rattle.rrs_asm.specs.Sections.{AreSectionsOf, ArePlaced, IsImage};
@@ -8,7 +8,7 @@ ghost use Rattle.rrs_asm_output.specs.Executables.{IsExecutableOf};
 ghost use Rattle.rrs_asm_macros.specs.Comments.{without_comments};
 ghost use Rattle.rrs_asm_macros.specs.Expansion.{Becomes};
 ghost use Rattle.rrs_run_commands.specs.Requests.{wanted_of};
-ghost use Rattle.rrs_commands.specs.Assembly.{IsExecutableFrom, IsImageFrom, layout_of};
+ghost use Rattle.rrs_commands.specs.Assembly.{IsExecutableFrom, IsImageFrom, IsToldApart, layout_of};
 
 use crate::assembly_files::with_files;
 use rrs_asm::{Layout, MOST_BYTES, Program, SourceError, SourceFault, assemble_source, image};
@@ -19,8 +19,10 @@ use rrs_asm_output::{
 };
 use rrs_cli::report::{flush, write_text};
 use rrs_reports::ShownName;
-use rrs_run_commands::files::{created, read_source};
-use rrs_run_commands::refusal::{FileFault, Refusal, failed, named, out_of_memory};
+use rrs_run_commands::files::read_source;
+use rrs_run_commands::outputs::created;
+use rrs_run_commands::places::{is_named, told_read, told_written};
+use rrs_run_commands::refusal::{FileFault, Refusal, failed, out_of_memory};
 use rrs_run_commands::requests::{Form, Request};
 use std::alloc::Global;
 use std::fs::Permissions;
@@ -74,7 +76,7 @@ pub fn products_of<'a, H: Files + Eprint + AllocGlobal>(
 {
     let layout = layout_of(request);
     let expanded = expanded_of(rt, path, source)?;
-    let whole = with_files(rt, path, expanded, request.has_any_file)?;
+    let whole = with_files(rt, path, expanded, request.has_any_file, request.output)?;
     let program = program_of(rt, path, request, &whole, layout)?;
     let executable = executable_for(rt.alloc(), path, request, &program)?;
     let text = text_of(
@@ -356,12 +358,15 @@ pub fn assemble_file<'a, H: Files + Eprint + AllocGlobal, O: Write>(
     request: Request<'a>,
     out: &mut O,
     is_terminal: bool,
-) -> Result<(), Refusal<'a>> {
+) -> Result<(), Refusal<'a>>
+    ensures { OnOk result (IsToldApart (wanted_of request.entry)) }
+{
     let path = request.path();
     let source = read_source(rt, path)?;
+    check_source(rt, request)?;
     let products = products_of(rt, path, &source, request)?;
     if let (Some(executable), Some(output)) = (&products.executable, request.output) {
-        write_executable(rt, path, executable, output)?;
+        write_executable(rt, executable, output)?;
     }
     if is_terminal && request.form == Form::Bytes && !products.text.is_empty() {
         return Err(Refusal::Terminal);
@@ -369,25 +374,37 @@ pub fn assemble_file<'a, H: Files + Eprint + AllocGlobal, O: Write>(
     write_all(out, &products.text)
 }
 
-/// Writes an executable into a file that is not the source.
+/// Sees that the executable's file, if there is one, is not the source.
 ///
 /// # Errors
 ///
-/// `Refusal::File` where the file is the source, or can't be created, and where a write fails.
+/// `Refusal::File` where it is; out of memory as a failure.
+fn check_source<'a, H: Files + AllocGlobal>(rt: &H, request: Request<'a>) -> Result<(), Refusal<'a>>
+    ensures { OnOk result (IsToldApart (wanted_of request.entry)) }
+{
+    let source = told_read(rt, request.file)?;
+    match told_written(rt, request.output)? {
+        Some(output) if is_named(&source, &output) => {
+            Err(Refusal::File(output.path, FileFault::IsSource))
+        }
+        _ => Ok(()),
+    }
+}
+
+/// Writes an executable into a file, which has what it had until all is written.
+///
+/// # Errors
+///
+/// `Refusal::File` where the file can't be created, and where a write fails.
 fn write_executable<'a, H: Files + AllocGlobal>(
     rt: &H,
-    path: &'a str,
     executable: &[u8],
     output: &'a str,
 ) -> Result<(), Refusal<'a>> {
-    if is_same_file(rt, path, output) {
-        return Err(Refusal::File(output, FileFault::IsSource));
-    }
-    if let Some(mut file) = created(rt, Some(output))? {
-        let written = write_all(&mut file, executable);
-        named(written, output, file.fault)?;
-        let_run(rt, output);
-    }
+    let mut file = created(rt, output)?;
+    let written = write_all(&mut file.file, executable);
+    file.close(rt, written)?;
+    let_run(rt, output);
     Ok(())
 }
 
@@ -410,13 +427,5 @@ fn let_run<H: Files>(rt: &H, path: &str) {
             let runs = Permissions::from_mode(mode | (mode & 0o444) >> 2);
             let _ = fs::set_permissions(rt, path, runs);
         }
-    }
-}
-
-/// Whether two paths are those of one file.
-fn is_same_file<H: Files + AllocGlobal>(rt: &H, path: &str, other: &str) -> bool {
-    match (fs::canonicalize(rt, path), fs::canonicalize(rt, other)) {
-        (Ok(path), Ok(other)) => path == other,
-        _ => path == other,
     }
 }

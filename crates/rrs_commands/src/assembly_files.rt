@@ -12,6 +12,7 @@ use rrs_asm_macros::Expanded;
 use rrs_asm_output::{MOST_MISTAKES, number_of};
 use rrs_reports::ShownName;
 use rrs_run_commands::files::read_file;
+use rrs_run_commands::places::{is_named, told_written};
 use rrs_run_commands::refusal::{FileFault, Refusal, out_of_memory};
 use std::alloc::{AllocError, Global};
 use std::fs;
@@ -38,6 +39,8 @@ struct Place<'a> {
     path: &'a str,
     /// Whether it may name files by any path.
     has_any_file: bool,
+    /// The path of the file that is written, if one is. The source may not name it.
+    output: Option<&'a str>,
     /// The number of the line.
     line: usize,
     /// The column of the statement.
@@ -49,30 +52,32 @@ struct Place<'a> {
 ///
 /// # Errors
 ///
-/// `Refusal::SourceErrors` where a file can't be read, or is not named as it has to be, and out of
-/// memory as a failure.
-pub fn with_files<'a, H: Files + Eprint + AllocGlobal>(
+/// `Refusal::SourceErrors` where a file can't be read, is not named as it has to be, or is the one
+/// that is written; out of memory as a failure.
+pub fn with_files<'a, 'p, H: Files + Eprint + AllocGlobal>(
     rt: &H,
-    path: &str,
+    path: &'p str,
     expanded: Expanded,
     has_any_file: bool,
+    output: Option<&'p str>,
 ) -> Result<Expanded, Refusal<'a>>
     ensures { IfOk result (λ made. Includes expanded.text.items made.text.items) }
 {
     if !names_file(&expanded.text) {
         return Ok(expanded);
     }
-    let text = text_with_files(rt, path, &expanded, has_any_file)?;
+    let text = text_with_files(rt, path, &expanded, has_any_file, output)?;
     let lines = expanded.lines;
     Ok(Expanded { text, lines })
 }
 
 /// The text with the bytes of its files. The first 20 lines with mistakes are told.
-fn text_with_files<'a, H: Files + Eprint + AllocGlobal>(
+fn text_with_files<'a, 'p, H: Files + Eprint + AllocGlobal>(
     rt: &H,
-    path: &str,
+    path: &'p str,
     expanded: &Expanded,
     has_any_file: bool,
+    output: Option<&'p str>,
 ) -> Result<Vec<u8>, Refusal<'a>> {
     let mut text = Vec::new(rt.alloc());
     let mut rest = Some(expanded.text.as_slice());
@@ -85,6 +90,7 @@ fn text_with_files<'a, H: Files + Eprint + AllocGlobal>(
         let place = Place {
             path,
             has_any_file,
+            output,
             line: number_of(&expanded.lines, number),
             column: 1,
         };
@@ -232,6 +238,10 @@ fn put_file<'a, H: Files + Eprint + AllocGlobal>(
         let what = "this is no file beside the source, which --incbin-anywhere allows";
         return refuse_file(rt, place, what, &path);
     }
+    if is_written(rt, place, &path)? {
+        let what = "the executable would be written over this file";
+        return refuse_file(rt, place, what, &path);
+    }
     let bytes = match read_file(rt, &path) {
         Ok(bytes) => bytes,
         Err(Refusal::File(_, FileFault::LargeSource)) => {
@@ -249,6 +259,19 @@ fn put_file<'a, H: Files + Eprint + AllocGlobal>(
     match push_numbers(text, bytes) {
         Ok(()) => Ok(()),
         Err(_) => Err(out_of_memory()),
+    }
+}
+
+/// Whether a path is that of the file that is written.
+fn is_written<'a, H: Files + AllocGlobal>(
+    rt: &H,
+    place: Place<'_>,
+    path: &str,
+) -> Result<bool, Refusal<'a>> {
+    match (told_written(rt, place.output), told_written(rt, Some(path))) {
+        (Ok(output), Ok(Some(file))) => Ok(is_named(&output, &file)),
+        (Ok(_), Ok(None)) => Ok(false),
+        _ => Err(out_of_memory()),
     }
 }
 

@@ -58,6 +58,9 @@ impl fmt::Display for ToldFault {
             FileFault::IsSource => f.write_str("this is the source, which stays as it is"),
             FileFault::IsRead => f.write_str("it is read, and stays as it is"),
             FileFault::IsWrittenTwice => f.write_str("two options write it"),
+            FileFault::IsOpen => {
+                f.write_str("it is open already, as a standard stream or a descriptor")
+            }
         }
     }
 }
@@ -70,6 +73,7 @@ fn reason_of(fault: HostFault) -> &'static str {
         HostFault::InputOutput => "Input/output error",
         HostFault::NoDevice => "No such device or address",
         HostFault::BadDescriptor => "Bad file descriptor",
+        HostFault::InUse => "Device or resource busy",
         HostFault::ManyFiles => "Too many open files",
         HostFault::Loop => "Too many levels of symbolic links",
         HostFault::NotFound => "No such file or directory",

@@ -127,8 +127,8 @@ const TRACE: Subcommand = Subcommand {
     help: "Runs PROGRAM as rrs exec does, and writes a line for each step, as Spike's
 --log-commits does: its pc, its word, the register that it wrote with its value, and
 mem with the address of its load, or of its store with the value. The lines go to
-standard error, or to FILE (--output), which is created or made empty. With --from
-they begin at the first step at an ADDRESS, which is decimal digits, or 0x and
+standard error, or to FILE (--output), which has all of them or stays as it was. With
+--from they begin at the first step at an ADDRESS, which is decimal digits, or 0x and
 hexadecimal ones, or else the name of a SYMBOL. A load or a store at a misaligned
 address has one line, with its whole access.
 

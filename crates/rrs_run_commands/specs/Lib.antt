@@ -7,4 +7,5 @@ pub mod Execution
 pub mod Words
 pub mod Options
 pub mod Requests
+pub mod WrittenFiles
 pub mod Advice

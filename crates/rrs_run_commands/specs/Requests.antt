@@ -139,10 +139,13 @@ wanted_of request = record {
 
 -- ---- files that are written
 
--- a file that is written, if one is, is neither the program nor the executable with its symbols
+-- a file that is written, if one is, is none that is read: the program, the executable with its
+-- symbols, the device tree, and the input
 abbrev pub IsUnread : Wanted → Option (List ℕ) → Type 0
 IsUnread wanted written =
-    (path : List ℕ) → written ≡ Some path → (wanted.file ≢ Some path) × (wanted.symbols ≢ Some path)
+    (path : List ℕ) → written ≡ Some path
+    → (wanted.file ≢ Some path) × (wanted.symbols ≢ Some path)
+    × (wanted.tree ≢ Some path) × (wanted.input ≢ Some path)
 
 -- that holds of each, and no file is written for two options
 pub record WritesApart (wanted : Wanted) : Type 0 where

@@ -3,7 +3,9 @@
 use crate::boards::{board_with, ending_of, stopped};
 use crate::disassembling::{code_of, flushed};
 use crate::executables::{memory_for, tell};
-use crate::files::{Noting, STANDARD_ERROR, buffered, check_written, created, read_program};
+use crate::files::{Noting, STANDARD_ERROR, buffered, read_program};
+use crate::outputs::Outputs;
+use crate::places::check_written;
 use crate::refusal::{FileFault, Refusal, named, no_image, out_of_memory};
 use crate::requests::Request;
 use crate::variables::variables_of;
@@ -49,18 +51,17 @@ fn write_profile<'a, O: Write + Drop>(
 
 /// Writes what a run covered: to a file or to `errors`, and a profile to a file, if there is one
 /// for it.
-fn write_reports<'a, F: Write + Drop, E: Write>(
+fn write_reports<'a, H: Files, E: Write>(
     alloc: Global,
     request: Request<'a>,
     profile: &Profile<'_, '_>,
-    output: Option<Noting<F>>,
-    callgrind: Option<Noting<F>>,
+    outputs: &mut Outputs<'a, H>,
     errors: &mut E,
 ) -> Result<(), Refusal<'a>> {
-    match output {
-        Some(mut report) => {
-            let written = write_report(alloc, request, profile, &mut report);
-            named(written, request.output.unwrap_or(""), report.fault)?;
+    match &mut outputs.output {
+        Some(report) => {
+            let written = write_report(alloc, request, profile, &mut report.file);
+            named(written, request.output.unwrap_or(""), report.file.fault)?;
         }
         None => {
             let mut report = Noting::new(errors);
@@ -68,10 +69,10 @@ fn write_reports<'a, F: Write + Drop, E: Write>(
             named(written, STANDARD_ERROR, report.fault)?;
         }
     }
-    match callgrind {
-        Some(mut out) => {
-            let written = write_profile(alloc, request, profile, &mut out);
-            named(written, request.callgrind.unwrap_or(""), out.fault)
+    match &mut outputs.callgrind {
+        Some(out) => {
+            let written = write_profile(alloc, request, profile, &mut out.file);
+            named(written, request.callgrind.unwrap_or(""), out.file.fault)
         }
         None => Ok(()),
     }
@@ -93,7 +94,7 @@ pub fn cover<'a, H: Files + Eprint + AllocGlobal, R: Read, W: Write, E: Write, P
     errors: &mut E,
     progress: &mut P,
 ) -> Result<Ending, Refusal<'a>> {
-    check_written(request)?;
+    check_written(rt, request)?;
     let file = read_program(rt, request.path())?;
     let code = code_of(rt.alloc(), request.path(), &file)?;
     cover_code(rt, request, &file, &code, environment, errors, progress)
@@ -112,9 +113,8 @@ fn cover_code<'a, H: Files + Eprint + AllocGlobal, R: Read, W: Write, E: Write, 
     let Ok(variables) = variables_of(rt.alloc(), request) else {
         return Err(out_of_memory());
     };
-    let output = created(rt, request.output)?;
-    let callgrind = created(rt, request.callgrind)?;
-    match cover_process(
+    let mut outputs = Outputs::created(rt, request)?;
+    let run = cover_process(
         rt.alloc(),
         file,
         code,
@@ -124,14 +124,20 @@ fn cover_code<'a, H: Files + Eprint + AllocGlobal, R: Read, W: Write, E: Write, 
         request.limit,
         environment,
         progress,
-    ) {
+    );
+    let ended = match run {
         Ok((end, profile)) => {
-            write_reports(rt.alloc(), request, &profile, output, callgrind, errors)?;
-            tell(rt, "rrs cover", file, &end);
-            Ok(end.ending)
+            match write_reports(rt.alloc(), request, &profile, &mut outputs, errors) {
+                Ok(()) => {
+                    tell(rt, "rrs cover", file, &end);
+                    Ok(end.ending)
+                }
+                Err(refusal) => Err(refusal),
+            }
         }
         Err(error) => Err(no_image(request.path(), file, error)),
-    }
+    };
+    outputs.close(rt, ended)
 }
 
 /// Runs firmware as a request says, and writes what the run covered of the code of the executable
@@ -147,7 +153,7 @@ pub fn cover_firmware<'a, H: Files + Eprint + AllocGlobal, R: Read, W: Write, E:
     output: &mut W,
     errors: &mut E,
 ) -> Result<Ending, Refusal<'a>> {
-    check_written(request)?;
+    check_written(rt, request)?;
     let file = read_program(rt, request.path())?;
     let board = board_with(rt, request, &file)?;
     match request.symbols {
@@ -174,8 +180,7 @@ fn cover_loaded<'a, H: Files + Eprint + AllocGlobal, R: Read, W: Write, E: Write
     output: &mut W,
     errors: &mut E,
 ) -> Result<Ending, Refusal<'a>> {
-    let report = created(rt, request.output)?;
-    let callgrind = created(rt, request.callgrind)?;
+    let mut outputs = Outputs::created(rt, request)?;
     let (mut input, mut output) = (Noting::new(input), Noting::new(output));
     let (limit, is_polled) = (request.limit, request.is_polled);
     let run = cover_board(
@@ -187,12 +192,15 @@ fn cover_loaded<'a, H: Files + Eprint + AllocGlobal, R: Read, W: Write, E: Write
         &mut input,
         &mut output,
     );
-    match run {
+    let ended = match run {
         Ok((end, profile)) => {
-            write_reports(rt.alloc(), request, &profile, report, callgrind, errors)?;
-            Ok(ending_of(rt, "rrs cover", &board, end))
+            match write_reports(rt.alloc(), request, &profile, &mut outputs, errors) {
+                Ok(()) => Ok(ending_of(rt, "rrs cover", &board, end)),
+                Err(refusal) => Err(refusal),
+            }
         }
         Err(BoardCoverError::OutOfMemory) => Err(out_of_memory()),
         Err(BoardCoverError::Terminal(error)) => Err(stopped(error, input.fault, output.fault)),
-    }
+    };
+    outputs.close(rt, ended)
 }

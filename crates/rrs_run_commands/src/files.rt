@@ -1,14 +1,12 @@
-//! The files that a subcommand reads and writes.
+//! The files that a subcommand reads, and the streams that it writes to.
 
-ghost use Rattle.std.specs.Prelude.{◌≡◌, ◌↔◌, ℕ, List, IfOk, OnErr, OnOk, IsTrue, Some, length, option_map};
+ghost use Rattle.std.specs.Prelude.{◌≡◌, ℕ, List, IfOk, length};
 ghost use Rattle.std.specs.Int.{from_le_bytes, w64};
 ghost use Rattle.std.specs.Io.KnownBytes.{Consumes};
-ghost use Rattle.rrs_run_commands.specs.Requests.{IsUnread, WritesApart, wanted_of};
 
 use crate::refusal::{FileFault, HostFault, Refusal, out_of_memory};
-use crate::requests::Request;
 use std::alloc::Global;
-use std::fs::{self, File};
+use std::fs;
 use std::io::{self, BufWriter, ErrorKind, Read, Write};
 use std::rt::Files;
 
@@ -39,6 +37,7 @@ pub fn fault_of(error: &io::Error) -> HostFault {
         Some(5) => HostFault::InputOutput,
         Some(6) => HostFault::NoDevice,
         Some(9) => HostFault::BadDescriptor,
+        Some(16) => HostFault::InUse,
         Some(24) => HostFault::ManyFiles,
         Some(40) => HostFault::Loop,
         _ => fault_of_kind(error.kind()),
@@ -143,8 +142,8 @@ fn seed_in<R: Read>(reader: &mut R) -> io::Result<u64>
     Ok(u64::from_le_bytes(bytes))
 }
 
-/// The path by which a file is opened.
-fn place_of(path: &str) -> &str {
+/// The path by which a file that is read is opened.
+pub(crate) fn place_of(path: &str) -> &str {
     if path == "-" { INPUT_PATH } else { path }
 }
 
@@ -175,75 +174,6 @@ fn read_all<'a, R: Read + Drop>(
         Ok(_) if file.len() as u64 > most => Err(Refusal::File(path, fault)),
         Ok(_) => Ok(file),
         Err(error) if error.kind() == ErrorKind::OutOfMemory => Err(out_of_memory()),
-        Err(error) => Err(refused_by_host(path, &error)),
-    }
-}
-
-/// Sees that no file of a request is written for two options, and that none is written that is
-/// read: the program, and the executable with its symbols. Files are told by their paths alone.
-///
-/// # Errors
-///
-/// `Refusal::File` for such a file. Nothing was written then.
-pub fn check_written<'a>(request: Request<'a>) -> Result<(), Refusal<'a>>
-    ensures apart { OnOk result (WritesApart (wanted_of request.entry)) }
-    ensures refused { OnErr result (WritesApart (wanted_of request.entry) → ⊥) }
-{
-    check_output(request, request.output)?;
-    check_output(request, request.callgrind)?;
-    match request.output {
-        Some(output) if is_path(request.callgrind, output) => {
-            Err(Refusal::File(output, FileFault::IsWrittenTwice))
-        }
-        _ => Ok(()),
-    }
-}
-
-/// Sees that a file that is written, if one is, is none that is read.
-///
-/// # Errors
-///
-/// `Refusal::File` where it is.
-fn check_output<'a>(request: Request<'a>, path: Option<&'a str>) -> Result<(), Refusal<'a>>
-    ensures unread { OnOk result (IsUnread (wanted_of request.entry)
-        (option_map (λ word. word.now) path.entry)) }
-    ensures refused { OnErr result (IsUnread (wanted_of request.entry)
-        (option_map (λ word. word.now) path.entry) → ⊥) }
-{
-    let Some(path) = path else {
-        return Ok(());
-    };
-    if is_path(request.file, path) || is_path(request.symbols, path) {
-        Err(Refusal::File(path, FileFault::IsRead))
-    } else {
-        Ok(())
-    }
-}
-
-/// Whether a path, if there is one, is this one.
-fn is_path(other: Option<&str>, path: &str) -> bool
-    ensures { IsTrue result ↔ (option_map (λ word. word.now) other.entry ≡ Some path.now) }
-{
-    match other {
-        Some(other) => other == path,
-        None => false,
-    }
-}
-
-/// The file that is to be written, if one is. What it has is gone.
-///
-/// # Errors
-///
-/// `Refusal::File` where it can't be created.
-pub fn created<'a, H: Files>(
-    rt: &H,
-    path: Option<&'a str>,
-) -> Result<Option<Noting<H::File>>, Refusal<'a>> {
-    let Some(path) = path else {
-        return Ok(None);
-    };
-    match File::create(rt, path) {
-        Ok(file) => Ok(Some(Noting::new(file))),
         Err(error) => Err(refused_by_host(path, &error)),
     }
 }

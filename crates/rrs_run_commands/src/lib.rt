@@ -1,10 +1,10 @@
 //! What all subcommands of `rrs` share, and those that run something or say what an executable has.
 //!
 //! Shared are the words that they are asked with (`words`, `options`, `variables`, `requests`), the
-//! files that they read and write (`files`), and why they refuse what they are asked (`refusal`).
-//! The subcommands here are runs of files, with and without a line for each instruction, programs
-//! that make system calls of Linux, with a report of the run or none, firmware on a board, and the
-//! listing and the disassembly of an executable.
+//! files that they read (`files`) and write (`outputs`), which of these are one (`places`), and why
+//! they refuse what they are asked (`refusal`). The subcommands here are runs of files, with and
+//! without a line for each instruction, programs that make system calls of Linux, with a report of
+//! the run or none, firmware on a board, and the listing and the disassembly of an executable.
 
 #![tactic(auto)]
 
@@ -17,6 +17,8 @@ pub mod executables;
 pub mod execution;
 pub mod files;
 pub mod options;
+pub mod outputs;
+pub mod places;
 pub mod progress_line;
 pub mod quiet;
 pub mod refusal;

@@ -1,7 +1,8 @@
 //! Why a subcommand of `rrs` did not do what it was asked.
 
-ghost use Rattle.std.specs.Prelude.{◌≡◌};
+ghost use Rattle.std.specs.Prelude.{◌≡◌, IfOk, Ok};
 ghost use Rattle.rrs_run_commands.specs.Advice.{HasMachine, advice};
+ghost use Rattle.rrs_run_commands.specs.WrittenFiles.{IsWantOfMemory};
 
 use crate::options::Setting;
 use rrs_cli::command::Failure;
@@ -45,6 +46,8 @@ pub enum HostFault {
     NoDevice,
     /// Bad file descriptor.
     BadDescriptor,
+    /// Device or resource busy.
+    InUse,
     /// Too many open files.
     ManyFiles,
     /// Too many levels of symbolic links.
@@ -137,6 +140,8 @@ pub enum FileFault {
     IsRead,
     /// The file is to be written for two options.
     IsWrittenTwice,
+    /// The file that is to be written is open already, as a standard stream or by a descriptor.
+    IsOpen,
 }
 
 /// Why a subcommand did not do what it was asked.
@@ -189,8 +194,10 @@ pub fn unloaded(path: &str, fault: RunFault) -> Refusal<'_> {
 }
 
 /// The refusal for want of memory.
-pub fn out_of_memory<'a>() -> Refusal<'a> {
-    failed(RunFault::OutOfMemory)
+pub fn out_of_memory<'a>() -> Refusal<'a>
+    ensures { IsWantOfMemory result }
+{
+    Refusal::Failed(Failure::Run(RunFault::OutOfMemory))
 }
 
 /// What is said of a file that is refused, after the refusal.
@@ -238,7 +245,9 @@ pub fn named<'a, T>(
     outcome: Result<T, Refusal<'a>>,
     path: &'a str,
     fault: Option<HostFault>,
-) -> Result<T, Refusal<'a>> {
+) -> Result<T, Refusal<'a>>
+    ensures { IfOk result (λ value. outcome.entry ≡ Ok value) }
+{
     match (outcome, fault) {
         (Err(Refusal::Output | Refusal::Input), Some(fault)) => {
             Err(Refusal::File(path, FileFault::Host(fault)))

@@ -2,9 +2,9 @@
 
 use crate::boards::{board_with, ending_of, stopped};
 use crate::executables::{memory_for, tell};
-use crate::files::{
-    Noting, STANDARD_ERROR, buffered, check_written, created, read_program, unwritten,
-};
+use crate::files::{Noting, STANDARD_ERROR, buffered, read_program, unwritten};
+use crate::outputs::created;
+use crate::places::check_written;
 use crate::refusal::{FileFault, Refusal, named, no_executable, no_image, out_of_memory};
 use crate::requests::Request;
 use crate::variables::variables_of;
@@ -134,13 +134,15 @@ pub fn trace<'a, H: Files + Eprint + AllocGlobal, R: Read, W: Write, E: Write, P
     errors: &mut E,
     progress: &mut P,
 ) -> Result<Ending, Refusal<'a>> {
-    check_written(request)?;
+    check_written(rt, request)?;
     let file = read_program(rt, request.path())?;
     let from = start_of(request.path(), &file, request)?;
-    match created(rt, request.output)? {
-        Some(mut log) => {
-            let ended = trace_to(rt, &file, request, from, environment, &mut log, progress);
-            named(ended, request.output.unwrap_or(""), log.fault)
+    match request.output {
+        Some(path) => {
+            let mut log = created(rt, path)?;
+            let out = &mut log.file;
+            let ended = trace_to(rt, &file, request, from, environment, out, progress);
+            log.close(rt, ended)
         }
         None => {
             let mut log = Noting::new(errors);
@@ -196,7 +198,7 @@ pub fn trace_firmware<'a, H: Files + Eprint + AllocGlobal, R: Read, W: Write, E:
     output: &mut W,
     errors: &mut E,
 ) -> Result<Ending, Refusal<'a>> {
-    check_written(request)?;
+    check_written(rt, request)?;
     let file = read_program(rt, request.path())?;
     let from = match request.symbols {
         Some(path) => start_of(path, &read_program(rt, path)?, request)?,
@@ -206,10 +208,11 @@ pub fn trace_firmware<'a, H: Files + Eprint + AllocGlobal, R: Read, W: Write, E:
         None => start_of(request.path(), &file, request)?,
     };
     let board = board_with(rt, request, &file)?;
-    match created(rt, request.output)? {
-        Some(mut log) => {
-            let ended = trace_loaded(rt, board, request, from, input, output, &mut log);
-            named(ended, request.output.unwrap_or(""), log.fault)
+    match request.output {
+        Some(path) => {
+            let mut log = created(rt, path)?;
+            let ended = trace_loaded(rt, board, request, from, input, output, &mut log.file);
+            log.close(rt, ended)
         }
         None => {
             let mut log = Noting::new(errors);
