@@ -12,8 +12,8 @@ more than two seconds is run once.
 
 With no option the tables are counted and printed. With --check our own rows are counted, and
 compared with those in numbers.tsv: one that is more than 5 % above fails, by name. The stored ones
-are of one toolchain: where `rt version` says another, this is said, and numbers.tsv gets the new
-ones. Then it is seen whether the tables in docs/SPEED.md are those of numbers.tsv. With --save the
+are of one toolchain: where `rt version` says another, this is said, and where one is above then,
+numbers.tsv gets the new ones. Then it is seen whether the tables in docs/SPEED.md are those of numbers.tsv. With --save the
 counts, and with --seconds the seconds, are stored, and the tables written. --draw draws the charts
 by gnuplot. With --self-test the watch is tried: over the crates as plain Rust, which build without a
 proof, a call that is not inlined and a cache that is cleared at each run have to be found.
@@ -22,7 +22,7 @@ A peer is called as BINARY FILE LIMIT, prints "steps" with their number, and sta
 seconds as a column more. QEMU's qemu-riscv32 and Unicorn stand there where they are installed.
 
 The status is 0 where all is so, 1 where something is not, and 2 where something is missing, or
-the counts are of another toolchain.
+where the counts are of another toolchain, and one is above.
 """
 import argparse
 import concurrent.futures
@@ -501,12 +501,14 @@ def check(room):
     of, kept = stored()
     now = version()
     numbers = count_all(room, False)
+    said = above(numbers, kept)
     if now != of:
+        print(f"the stored counts are of {of}, and these of {now}")
+    if now != of and said:
         store(now, {**kept, **numbers})
         write_page(stored()[1])
-        print(f"the stored counts are of {of}: those of {now} are stored in their place")
+        print("\n".join([*said, "these are stored in their place"]))
         return 2
-    said = above(numbers, kept)
     with open(PAGE, encoding="utf-8") as page:
         text = page.read()
     if page_with(text, kept) != text:
