@@ -111,18 +111,6 @@ SITES = (
         "Rust 1.85 has one `let` in an `if`.",
     ),
     (
-        "tests_host/src/stopping.rt",
-        "run_before::<_, _, true>",
-        "run_before::<_, 64, true>",
-        "Rust 1.85 has no `_` for a number.",
-    ),
-    (
-        "tests_host/src/stopping.rt",
-        "run_before::<_, _, false>",
-        "run_before::<_, N, false>",
-        "Rust 1.85 has no `_` for a number.",
-    ),
-    (
         "rrs_gdb/src/lib.rt",
         "//! A [Session] answers",
         "//! A session answers",

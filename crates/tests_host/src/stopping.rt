@@ -235,7 +235,7 @@ fn aligned_end(alloc: Global, word: u32, x8: u32) -> Result<(HaltEnd, HartState)
         mem: &mut cached,
         hart_state: &mut hart_state,
     };
-    let end = run_before::<_, _, true>(&mut executor, 1, &[]);
+    let end = run_before::<_, 64, true>(&mut executor, 1, &[]);
     Ok((end, hart_state))
 }
 
@@ -272,7 +272,7 @@ fn before<M: Memory, const N: usize>(
     stops: &[u32],
 ) -> HaltEnd {
     let mut executor = InstructionExecutor { mem, hart_state };
-    run_before::<_, _, false>(&mut executor, 10, stops)
+    run_before::<_, N, false>(&mut executor, 10, stops)
 }
 
 /// Where runs begin and their stops; how many steps they make, what ends them, and the pc after

@@ -156,7 +156,7 @@ pub struct Stopping<'a> {
 impl<'a, M: Memory, const N: usize> Way<CachedMemory<M, N>> for Stopping<'a> {
     fn make(&mut self, executor: &mut InstructionExecutor<CachedMemory<M, N>>, limit: u64) -> u64 {
         if self.is_before {
-            run_before::<_, _, true>(executor, limit, self.stops).steps
+            run_before::<M, N, true>(executor, limit, self.stops).steps
         } else {
             run_until_cached(executor, limit, self.stops).steps
         }
