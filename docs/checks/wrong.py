@@ -17,6 +17,8 @@ RIGHT = {
                              "\n/// Two.\npub fn other_name() -> u32\n    ensures value "
                              "{ result ≡ 2 }\n    ensures { result < 3 }\n{\n    2\n}\n",
     TABLE: "table Row.Add = row \"add\"\n",
+    "crates/one/specs/One.antt": "-- A number.\nuse One.{ℕ}\nabbrev pub f : ℕ → ℕ\nf 0 = 1\nf n = n\n"
+                                 "module _\n    (x : ℕ) where\n  abbrev pub g : ℕ\n  g =\n      x\n",
     "crates/one/must-fail/tried-alone.md": "part: another\nfile: src/lib.rt\nold:     1\nnew:     2\n",
     "docs/ADDING.md": f"# Adding\n\n| `{TABLE}` | 1 |\n",
     "docs/PROVED.md": "# Proved\n\n| Promise | Carried by | How |\n|---|---|---|\n"
@@ -99,6 +101,25 @@ COMMANDS = [
     ("<!-- not run: it fails -->\n```sh\nfalse\n```\n\n```text\nfalse\n```\n", 0, ""),
 ]
 
+# a file, what stands in it, what stands there instead, and what --changed prints of that before it counts
+CLAUSES = "crates/one/src/lib.rt"
+DEFINITIONS = "crates/one/specs/One.antt"
+CHANGES = [
+    (CLAUSES, "result ≡ 2", "result ≡ 3",
+     "one: other_name: ensures value\n  before: result ≡ 2\n  after: result ≡ 3\n"),
+    (CLAUSES, "ensures { result < 3 }", "requires few { 3 < 4 }",
+     "one: other_name: ensures\n  before: result < 3\n  after: none\n"
+     "one: other_name: requires few\n  before: none\n  after: 3 < 4\n"),
+    (CLAUSES, "{\n    2\n}", "{\n    3 // three\n}\n", ""),
+    (DEFINITIONS, "f 0 = 1", "f 0 = 2", "one: One: f\n  before: f 0 = 1\n  after: f 0 = 2\n"),
+    (DEFINITIONS, "f 0 = 1\nf n = n", "f n = n\nf 0 = 1", "one: One: f\n  before: abbrev pub f : ℕ → ℕ\n"
+     "  before: f 0 = 1\n  before: f n = n\n  after: abbrev pub f : ℕ → ℕ\n  after: f n = n\n  after: f 0 = 1\n"),
+    (DEFINITIONS, "      x\n", "      0\n", "one: One: g\n  before: g = x\n  after: g = 0\n"),
+    (DEFINITIONS, "(x : ℕ)", "(x y : ℕ)", "one: One: module\n  before: module _ (x : ℕ) where\n"
+     "  after: module _ (x y : ℕ) where\n"),
+    (DEFINITIONS, "-- A number.\nuse One.{ℕ}", "-- Another.\n\nuse Two.{ℕ}", ""),
+]
+
 
 def checked(folder, *words):
     """The status of the check in a repository, and what it prints."""
@@ -141,8 +162,18 @@ def self_test(root):
             path.write_text(text)
             if status != 1 or wanted not in said or text.count(old) == 0:
                 missed.append(f"{file}: {new!r} for {old!r}: status {status}, {said}")
-        subprocess.run([*own, "add", "docs/OTHER.md", "crates"], check=True)
+        subprocess.run([*own, "add", "docs/OTHER.md", "crates", "crates.txt"], check=True)
         subprocess.run([*own, "commit", "--quiet", "-m", "Add what the clone has"], check=True)
+        for file, old, new, wanted in CHANGES:
+            path = folder / file
+            text = path.read_text()
+            path.write_text(text.replace(old, new, 1))
+            status, said = checked(folder, "--changed", "HEAD")
+            is_told = said.rsplit("\n", 2)[0] + "\n" == wanted or said.startswith("0 ") and not wanted
+            between = checked(folder, "--changed", "HEAD", "HEAD")
+            path.write_text(text)
+            if status != 0 or not is_told or text.count(old) == 0 or not between[1].startswith("0 "):
+                missed.append(f"--changed: {new!r} for {old!r}: status {status}, {said}")
         os.utime(folder / "crates/one/src/lib.rt", (1e9, 1e9))
         (folder / "crates/one/out").mkdir()
         (folder / "crates/one/out/made").write_text("made\n")
