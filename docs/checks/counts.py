@@ -236,6 +236,7 @@ COUNTS = {
     "proof-lines:": (proof_lines, 100),
     "rust-lines:": (rust_lines, 10),
     "cache-bytes": (cache_bytes, 1),
+    "c-functions": (lambda s: s.text("crates/rrs_c/src/lib.rt").count("unsafe(no_mangle)"), 1),
     "cache-kib": (lambda s: cache_bytes(s) // 1024, 1),
     "const:": (constant, 1),
     "variants:": (variants, 1),

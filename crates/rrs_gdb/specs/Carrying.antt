@@ -83,8 +83,8 @@ pub record StillLeads (old : History) (s : State) (new : History) (accesses : �
   pub room_kept : room new ≡ room old
 
 -- A step faulted, and left s with an address reserved or none. The instruction there is carried
--- out, and leaves t. The history keeps it as a call. Where a fault is left, nothing is changed, and
--- nothing kept.
+-- out, and leaves t. The history keeps it as a call. Where a fault is left, the state stays, and
+-- nothing is kept; a sc.w has taken the reservation.
 pub record Carried (fault : InstructionException) (reserved : Option ℕ) (old : History) (s : State)
     (answer : StepAnswer) (reserved' : Option ℕ) (new : History) (t : State) : Type 0 where
   pub accesses : List Access
