@@ -150,8 +150,10 @@ pub fn tell<H: Eprint>(rt: &H, program: &str, file: &[u8], end: &ProcessEnd) {
         None => eprintln!(rt; "{program}: at pc 0x{pc:08x}, after {steps} steps"),
     };
     if let InstructionException::IllegalInstruction(_, word) = fault {
-        if word % 4 != 3 {
-            let half = word % 65536;
+        let half = word % 65536;
+        if half == 0 {
+            let _ = eprintln!(rt; "{program}: no code is there; a program ends by a call of exit");
+        } else if half % 4 != 3 {
             let _ = eprintln!(rt; "{program}: 0x{half:04x} is compressed code");
         }
     }
