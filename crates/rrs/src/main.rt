@@ -1,4 +1,4 @@
-//! Runs and assembles programs: `rrs run`, `rrs exec`, `rrs as`, and `rrs --help`, which says more.
+//! Runs, assembles, lists and debugs programs. `rrs --help` lists its nine subcommands.
 //!
 //! Each is a subcommand of `rrs_commands`. A word of the command line that is not UTF-8, the
 //! program's own name among them, counts as a wrong argument.

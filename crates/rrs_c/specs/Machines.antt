@@ -1,7 +1,7 @@
 -- Machine mode, as C has it (RISC-V privileged specification 1.12, "Machine-Level CSRs": mcause has
 -- bit 31 and the code of an interrupt, or the code of an exception, whose value is what mtval gets;
 -- mip has a bit for each interrupt that is pending). A step is that of MachineSteps.antt of
--- rrs_machine, and its record that of MachineRecords.antt of rrs_words.
+-- rrs_machine, and its record that of MachineRecords.antt there.
 use Rattle.std.specs.Prelude.{◌≡◌, ◌<◌, ℕ, ◌+◌, ◌^◌, ◌==◌, if◌then◌else◌, List, Option, Some, None}
 use Rattle.rrs_lib.specs.Words.{bit}
 use Rattle.rrs_machine.specs.declared.csrs.CsrFile.{CsrFile}

@@ -131,7 +131,7 @@ pub fn run_file<R: Files + Print + AllocGlobal>(
     simulate(rt.alloc(), &mut reader, limit, &mut out).map_err(Failure::Run)
 }
 
-/// A file that is open for reading, after a buffer.
+/// A file that is open for reading, with a buffer.
 ///
 /// # Errors
 ///
@@ -146,7 +146,7 @@ pub fn open_file<R: Files + AllocGlobal>(
     BufReader::new(rt.alloc(), file).map_err(|_| Failure::Run(RunFault::OutOfMemory))
 }
 
-/// Standard output after a buffer.
+/// Standard output with a buffer.
 ///
 /// # Errors
 ///

@@ -178,7 +178,7 @@ fn read_all<'a, R: Read + Drop>(
     }
 }
 
-/// A writer after a buffer.
+/// A writer with a buffer.
 ///
 /// # Errors
 ///
