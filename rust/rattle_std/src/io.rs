@@ -4,6 +4,12 @@ use crate::rt::Print;
 use core::marker::PhantomData;
 pub use host::io::*;
 
+/// What may be a terminal.
+pub trait IsTerminal {
+    /// Whether it is one.
+    fn is_terminal(&self) -> bool;
+}
+
 /// A writer to standard output, through the buffer of Rust's library.
 pub struct Printer<'a, R>(PhantomData<&'a R>);
 

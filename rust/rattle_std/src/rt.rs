@@ -17,6 +17,7 @@ mod host_runtime {
     use super::AllocGlobal;
     use crate::alloc::Global;
     use crate::fs::{Names, OpenFile};
+    use crate::io::IsTerminal;
     use core::fmt::Display;
     use host::fs::File;
     use host::io::{self, BufRead, Read, Seek, Write};
@@ -34,25 +35,73 @@ mod host_runtime {
         }
 
         /// Standard input, without a buffer.
-        pub fn stdin(&self) -> File {
-            stream(io::stdin())
+        pub fn stdin(&self) -> Stream<io::Stdin> {
+            Stream::of(io::stdin())
         }
 
         /// Standard output, without a buffer.
-        pub fn stdout(&self) -> File {
-            stream(io::stdout())
+        pub fn stdout(&self) -> Stream<io::Stdout> {
+            Stream::of(io::stdout())
         }
 
         /// Standard error, without a buffer.
-        pub fn stderr(&self) -> File {
-            stream(io::stderr())
+        pub fn stderr(&self) -> Stream<io::Stderr> {
+            Stream::of(io::stderr())
         }
     }
 
-    /// A standard stream as a file. Rust opens each of them before `main`, so that it is there.
-    fn stream(of: impl AsFd) -> File {
-        let owned = of.as_fd().try_clone_to_owned();
-        File::from(owned.expect("a standard stream can't be opened once more"))
+    /// A standard stream, by a duplicate of its descriptor, which is made where it is first used.
+    /// Where the process may have no more of them it is the stream of Rust's library, and what is
+    /// written leaves its buffer at once.
+    #[derive(Debug)]
+    pub struct Stream<S> {
+        duplicate: Option<Option<File>>,
+        own: S,
+    }
+
+    impl<S: AsFd> Stream<S> {
+        fn of(own: S) -> Stream<S> {
+            let duplicate = None;
+            Stream { duplicate, own }
+        }
+
+        /// The duplicate, or else the stream of Rust's library.
+        fn parts(&mut self) -> (Option<&mut File>, &mut S) {
+            let Stream { duplicate, own } = self;
+            let made = || own.as_fd().try_clone_to_owned().ok().map(File::from);
+            (duplicate.get_or_insert_with(made).as_mut(), own)
+        }
+    }
+
+    impl<S: io::IsTerminal> IsTerminal for Stream<S> {
+        fn is_terminal(&self) -> bool {
+            self.own.is_terminal()
+        }
+    }
+
+    impl<S: AsFd + Read> Read for Stream<S> {
+        fn read(&mut self, bytes: &mut [u8]) -> io::Result<usize> {
+            match self.parts() {
+                (Some(file), _) => file.read(bytes),
+                (None, own) => own.read(bytes),
+            }
+        }
+    }
+
+    impl<S: AsFd + Write> Write for Stream<S> {
+        fn write(&mut self, bytes: &[u8]) -> io::Result<usize> {
+            match self.parts() {
+                (Some(file), _) => file.write(bytes),
+                (None, own) => {
+                    own.write_all(bytes)?;
+                    own.flush().map(|()| bytes.len())
+                }
+            }
+        }
+
+        fn flush(&mut self) -> io::Result<()> {
+            self.own.flush()
+        }
     }
 
     /// What prints to standard output.
