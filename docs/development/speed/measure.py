@@ -6,16 +6,16 @@ usage: measure.py [--check | --save | --seconds [--rounds N] | --draw | --self-t
 
 Counts are machine instructions a step, by valgrind: the difference of two runs, of which one makes
 more steps. What is counted are the programs of this repository over those in programs/, which gcc
-made, and over loops made here; and interpreters in C, which gcc and clang build. Seconds are the
-least user and system time of the rounds, which take turns, of programs to their end; what takes
-more than two seconds is run once.
+made, and over loops made here, as `rt` builds them and as plain Rust; and interpreters in C, which gcc
+and clang build. Seconds are the least user and system time of the rounds, which take turns, of programs
+to their end; what takes more than two seconds is run once.
 
 With no option the tables are counted and printed. With --check our own rows are counted, and
 compared with those in numbers.tsv: one that is more than 5 % above fails, by name. The stored ones
-are of one toolchain: where `rt version` says another, this is said, and where one is above then,
-numbers.tsv gets the new ones. Then it is seen whether the tables in docs/SPEED.md are those of numbers.tsv. With --save the
-counts, and with --seconds the seconds, are stored, and the tables written. --draw draws the charts
-by gnuplot. With --self-test the watch is tried: over the crates as plain Rust, which build without a
+are of one toolchain and one rustc: where there is another, this is said, and where one is above then,
+numbers.tsv gets the new ones. Then it is seen whether the tables in docs/SPEED.md are those of
+numbers.tsv. With --save the counts, and with --seconds the seconds, are stored, and the tables written.
+--draw draws the charts by gnuplot. With --self-test the watch is tried: over the crates as plain Rust, which build without a
 proof, a call that is not inlined and a cache that is cleared at each run have to be found.
 
 A peer is called as BINARY FILE LIMIT, prints "steps" with their number, and stands in the table of
@@ -248,8 +248,18 @@ def interpreters(room, with_peers):
     return rows
 
 
-def commands(room, with_plain):
-    """What people run, and the same as plain Rust, which `rust/build` makes."""
+def commands(room, _):
+    """What people run."""
+    return commands_of(room, RRS)
+
+
+def plain(room, _):
+    """The same as plain Rust, which `rust/build` makes."""
+    return commands_of(room, os.path.join(PLAIN, "rrs"))
+
+
+def commands_of(room, rrs):
+    """What people run of a program `rrs`."""
     raw = made(room, "a mixed loop.bin", words_of(mixed_loop()))
     elf = {}
     for file in [*PROGRAMS, raw]:
@@ -262,25 +272,19 @@ def commands(room, with_plain):
         return {**columns, "a mixed loop": Count(command(raw), **more)}
 
     def run(word, *more):
-        return lambda file: lambda n: [RRS, word, "--limit", str(n), *more, elf[file]]
+        return lambda file: lambda n: [rrs, word, "--limit", str(n), *more, elf[file]]
 
     def gdb(file):
-        return lambda n: [RRS, "gdb", elf[file]]
-
-    def quiet(rrs):
-        return lambda file: lambda n: [rrs, "run", "--quiet", file, str(n)]
+        return lambda n: [rrs, "gdb", elf[file]]
 
     nowhere = ("--output", "/dev/null")
-    plain = os.path.join(PLAIN, "rrs")
     return {
-        **({"`rrs run --quiet` as plain Rust": by_program(quiet(plain), is_own=False)}
-           if with_plain and os.path.exists(plain) else {}),
-        "`rrs run --quiet`": by_program(quiet(RRS)),
-        "`rrs run`": by_program(lambda file: lambda n: [RRS, "run", file, str(n)]),
+        "`rrs run --quiet`": by_program(lambda file: lambda n: [rrs, "run", "--quiet", file, str(n)]),
+        "`rrs run`": by_program(lambda file: lambda n: [rrs, "run", file, str(n)]),
         "`rrs exec`": by_program(run("exec")),
         "`rrs gdb`: `continue` without a history": by_program(gdb, said=lambda n: packets(n, 0)),
         "`rrs gdb`: `continue` with one": by_program(gdb, said=packets),
-        "`rrs board`": {"a mixed loop": Count(lambda n: [RRS, "board", "--limit", str(n), board])},
+        "`rrs board`": {"a mixed loop": Count(lambda n: [rrs, "board", "--limit", str(n), board])},
         "`rrs cover`": by_program(run("cover", *nowhere)),
         "`rrs trace`": by_program(run("trace", *nowhere)),
     }
@@ -340,8 +344,8 @@ def c_calls(room, _):
     return rows
 
 
-TABLES = {"interpreters": interpreters, "commands": commands, "calls": ways, "sizes": sizes,
-          "C": c_calls}
+TABLES = {"interpreters": interpreters, "commands": commands, "plain": plain, "calls": ways,
+          "sizes": sizes, "C": c_calls}
 
 
 def count_all(room, with_peers, only=""):
@@ -360,9 +364,12 @@ def count_all(room, with_peers, only=""):
 # ---- what is stored
 
 def version():
+    """The toolchains: Rattle's, and the rustc of the plain crates."""
     if not shutil.which("rt"):
         raise Missing("rt")
-    return subprocess.run(["rt", "version"], capture_output=True, text=True, check=True).stdout.strip()
+    own, rust = (subprocess.run(words, capture_output=True, text=True, check=True).stdout
+                 for words in (["rt", "version"], ["rustc", "--version"]))
+    return f"{own.strip()}, rustc {rust.split()[1]}"
 
 
 def stored():
@@ -512,6 +519,8 @@ def build():
             raise Missing("rt")
         if status:
             raise SystemExit(f"measure.py: {' '.join(what)} does not build")
+    want("cargo=cargo-web")
+    subprocess.run([os.path.join(ROOT, "rust", "build")], check=True)
 
 
 def check(room):
