@@ -199,7 +199,8 @@ const RUN_USAGE: &str = "usage: rrs-run FILE LIMIT\n";
 const RRS_USAGE: &str = "usage: rrs run|exec|trace|cover|as|dis|elf|board|gdb|help ..\n";
 
 /// What it says of a word that is not UTF-8.
-const NOT_TEXT: &str = "rrs: a word of the command line is not UTF-8
+const NOT_TEXT: &str = "rrs: a word of the command line is not UTF-8: a link gives a file a name \
+    that is, and a program can read such bytes from its input
 usage: rrs run|exec|trace|cover|as|dis|elf|board|gdb|help ..
 ";
 
