@@ -112,12 +112,9 @@ const KERNEL_MAGIC = { at: 56, bytes: [0x52, 0x53, 0x43, 0x05] };
 /** Whether a file is an image for the board: a kernel of Linux, or an executable that starts in RAM. */
 function isBoardImage(bytes) {
   if (KERNEL_MAGIC.bytes.every((byte, index) => bytes[KERNEL_MAGIC.at + index] === byte)) return true;
-  return isElf(bytes) && bytes.length >= 28 && entryOf(bytes) >= RAM_START;
-}
-
-/* The address at which an executable starts (e_entry). */
-function entryOf(bytes) {
-  return new DataView(bytes.buffer, bytes.byteOffset).getUint32(24, true);
+  if (!isElf(bytes) || bytes.length < 28) return false;
+  const entry = new DataView(bytes.buffer, bytes.byteOffset).getUint32(24, true);
+  return entry >= RAM_START;
 }
 
 /* ---- the terminal */
@@ -197,7 +194,7 @@ class Board {
     }
     this.kit ??= new BoardKit(this.module, RAM_BYTES);
     this.pause();
-    if (isElf(bytes) && !this.kit.loadElf(bytes, RAM_START)) {
+    if (isElf(bytes) && !this.kit.loadElf(bytes)) {
       return `It is no executable that lies within RAM, from ${hex(RAM_START)} on.`;
     }
     Object.assign(this, { name, image: bytes });
@@ -209,8 +206,8 @@ class Board {
   reset() {
     const { kit, image } = this;
     this.pause();
-    kit.reset(isElf(image) ? entryOf(image) : RAM_START);
-    if (isElf(image)) kit.loadElf(image, RAM_START);
+    kit.reset(RAM_START);
+    if (isElf(image)) kit.loadElf(image);
     else kit.bytes.set(image);
     kit.bytes.set(deviceTree(RAM_BYTES), RAM_BYTES - TREE_ROOM);
     kit.x[11] = RAM_START + RAM_BYTES - TREE_ROOM;

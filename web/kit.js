@@ -469,14 +469,14 @@ class BoardKit {
     this.exports.rrs_board_reset(BigInt(this.board), profile, pc);
   }
 
-  /** Puts the segments of an executable into RAM, which begins at an address. Returns whether all of
-   * them lie in it. */
-  loadElf(file, start) {
+  /** Puts the segments of an executable into RAM, each at its physical address, and the hart at the
+   * entry. Returns whether all of them lie in it. */
+  loadElf(file) {
     const at = this.places.of(file.length);
     this.view(this.bytes.length);
     new Uint8Array(this.exports.memory.buffer, at, file.length).set(file);
-    this.exports.rrs_elf_load(BigInt(this.loaded), BigInt(at), BigInt(file.length), BigInt(this.ram),
-      this.count, start);
+    this.exports.rrs_board_load(BigInt(this.loaded), BigInt(this.board), BigInt(at),
+      BigInt(file.length), BigInt(this.ram), this.count);
     this.places.next = at;
     return this.data.getUint32(this.loaded + LAYOUT.loaded.refusal, true) === 0;
   }

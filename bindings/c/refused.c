@@ -178,6 +178,13 @@ rrs_loaded rrs_elf_load(const uint8_t *file, size_t size, uint32_t *words, size_
     return none;
 }
 
+rrs_loaded rrs_board_load(rrs_board *board, const uint8_t *file, size_t size, uint32_t *words,
+                          size_t count) {
+    rrs_loaded none = {RRS_ELF_NOT_ELF, 0};
+    (void)board, (void)file, (void)size, (void)words, (void)count;
+    return none;
+}
+
 rrs_location rrs_elf_function_at(const uint8_t *file, size_t size, uint32_t address, char *text,
                                  size_t room) {
     rrs_location none = {RRS_NOWHERE, 0, 0};

@@ -278,6 +278,9 @@ _board_waits_for_input = _function("rrs_board_waits_for_input", _u32, ctypes.POI
 _elf_parse = _function("rrs_elf_parse", _Elf, ctypes.c_char_p, _size)
 _elf_segment = _function("rrs_elf_segment", _Segment, ctypes.c_char_p, _size, _u32)
 _elf_load = _function("rrs_elf_load", _Loaded, ctypes.c_char_p, _size, _words, _size, _u32)
+_board_load = _function(
+    "rrs_board_load", _Loaded, ctypes.POINTER(_Board), ctypes.c_char_p, _size, _words, _size
+)
 _elf_function_at = _function(
     "rrs_elf_function_at", _Location, ctypes.c_char_p, _size, _u32, ctypes.c_char_p, _size
 )
@@ -1265,6 +1268,20 @@ class Board:
     @software.setter
     def software(self, value: int) -> None:
         self._board.software = _word_of(value)
+
+    def load(self, file: bytes) -> None:
+        """Loads an executable in the ELF format, of the bytes of its file: each segment at its
+        physical address. The hart is then at its entry.
+
+        An ElfError is raised where the file is refused, and one ``"NOT_IN_WORDS"`` at an address
+        that is not in RAM. The hart stays then.
+        """
+        file = bytes(file)
+        loaded = _board_load(self._pointer, file, len(file), *self._words)
+        if loaded.refusal == _NOT_IN_WORDS:
+            raise ElfError("NOT_IN_WORDS", loaded.address)
+        if loaded.refusal:
+            raise ElfError(_ElfRefusal(loaded.refusal).name)
 
     def run(self, limit: int) -> BoardEnd:
         """Makes steps until ``limit`` were made, or one has something for the caller. A further call

@@ -728,6 +728,28 @@ class Faces(Counted):
         self.assertEqual(board.run(9), (4, rrs.BoardEvent.FINISHED, 5))
         self.assertEqual((board.registers[4], board.time, board.receive(0)), (1, 15, True))
 
+    def test_a_board_is_loaded_at_physical_addresses(self):
+        segments = ((0x80000010, 0x80000000), (0x20000000, 0x80000010), (0x80000010, 0x80000020))
+        words = (0x100000B7, 0x04100113, 0x00208023)  # transmits A
+        def file_of(*segments):
+            head = HEAD[:24] + struct.pack("<I", 0x80000010) + HEAD[28:44] + struct.pack("<H", len(segments))
+            each = (struct.pack("<8I", 1, 148, *segment, 12, 16, 5, 4) for segment in segments)
+            return (head + HEAD[46:] + b"".join(each)).ljust(148, b"\0") + struct.pack("<3I", *words)
+        board = rrs.Board([7] * 12)
+        board.load(file_of(*segments))
+        self.assertEqual((board.pc, board.memory[:]), (0x80000010, [*words, 0] * 3))
+        self.assertEqual(board.run(9), (3, rrs.BoardEvent.TRANSMITTED, 65))
+        for second, *wanted in (
+            ((0x80000020, 0x8000000C), "SEGMENTS_OVERLAP", 0),
+            ((0x80000020, 0xFFFFFFF4), "SEGMENT_PAST_LAST_ADDRESS", 0),
+            ((0x80000020, 0x80000024), "NOT_IN_WORDS", 0x80000030),
+            ((0x80000020, 0x20000000), "NOT_IN_WORDS", 0x20000000),
+        ):
+            with self.assertRaises(rrs.ElfError) as caught:
+                board.load(file_of(segments[0], second))
+            self.assertEqual((caught.exception.refusal, caught.exception.number), tuple(wanted))
+            self.assertEqual(board.pc, 0x8000001C)
+
     def test_a_board_waits_for_its_alarm_and_for_input(self):
         wfi, enable = 0x10500073, [0x100000B7, 0x00100113, 0x002080A3]  # sb x2, 1(x1), for IER
         board = rrs.Board([wfi, wfi, *enable])

@@ -6,7 +6,9 @@ use Rattle.rrs_memory.specs.Bytes.{ByteMap}
 use Rattle.rrs_memory.specs.declared.MemAccessSize.{MemAccessSize}
 use Rattle.rrs_memory.specs.SliceBytes.{bytes_from, lies_from}
 use Rattle.rrs_memory.proofs.SliceWords.{lies_same}
-use Rattle.rrs_elf.specs.Headers.{e_phnum, p_vaddr}
+use Rattle.rrs_elf.specs.Headers.{e_phnum, p_paddr}
+use Rattle.rrs_elf.specs.declared.program_headers.Addresses.{Addresses}
+use Rattle.rrs_elf.specs.declared.program_headers.Addresses.TheVariants.{Physical}
 use Rattle.rrs_elf.specs.Loading.{Stands, StopsAt, loaded_size}
 use Rattle.rrs_board.specs.Registers.{ram_start}
 use Rattle.rrs_board.specs.Boards.{EndsOutside, is_in_ram}
@@ -16,21 +18,22 @@ lies_above : (words : List ℕ) (a : ℕ) → lies_from ram_start words a ≡ tr
 lies_above words a lies = grind (arith, nat_tests)
 
 -- the segments stand in the words that were zeros
-pub stands_in_ram : (file read old zeros new items : List ℕ)
-    → read ≡ file → old ≡ zeros → items ≡ new → length new ≡ length old
-    → Stands read (bytes_from ram_start old) (bytes_from ram_start new) (lies_from ram_start old) (e_phnum read) 0
-    → Stands file (bytes_from ram_start zeros) (bytes_from ram_start items) (lies_from ram_start items) (e_phnum file) 0
-stands_in_ram file read old zeros new items same is_zeros is_new kept stands =
-    subst (λ f. Stands f (bytes_from ram_start zeros) (bytes_from ram_start items) (lies_from ram_start items) (e_phnum f) 0) same
-    (subst (λ xs. Stands read (bytes_from ram_start zeros) (bytes_from ram_start xs) (lies_from ram_start xs) (e_phnum read) 0) (sym is_new)
-    (subst (λ w. Stands read (bytes_from ram_start zeros) (bytes_from ram_start new) w (e_phnum read) 0) (sym (lies_same ram_start old new kept))
-    (subst (λ xs. Stands read (bytes_from ram_start xs) (bytes_from ram_start new) (lies_from ram_start old) (e_phnum read) 0) is_zeros stands)))
+pub stands_in_ram : (at : Addresses) (file read old zeros new items : List ℕ)
+    → at ≡ Physical → read ≡ file → old ≡ zeros → items ≡ new → length new ≡ length old
+    → Stands at read (bytes_from ram_start old) (bytes_from ram_start new) (lies_from ram_start old) (e_phnum read) 0
+    → Stands Physical file (bytes_from ram_start zeros) (bytes_from ram_start items) (lies_from ram_start items) (e_phnum file) 0
+stands_in_ram at file read old zeros new items physical same is_zeros is_new kept stands =
+    subst (λ f. Stands Physical f (bytes_from ram_start zeros) (bytes_from ram_start items) (lies_from ram_start items) (e_phnum f) 0) same
+    (subst (λ xs. Stands Physical read (bytes_from ram_start zeros) (bytes_from ram_start xs) (lies_from ram_start xs) (e_phnum read) 0) (sym is_new)
+    (subst (λ w. Stands Physical read (bytes_from ram_start zeros) (bytes_from ram_start new) w (e_phnum read) 0) (sym (lies_same ram_start old new kept))
+    (subst (λ xs. Stands Physical read (bytes_from ram_start xs) (bytes_from ram_start new) (lies_from ram_start old) (e_phnum read) 0) is_zeros
+    (subst (λ a. Stands a read (bytes_from ram_start old) (bytes_from ram_start new) (lies_from ram_start old) (e_phnum read) 0) physical stands))))
 
 pub all_in_ram : (file items : List ℕ) (old new : ByteMap)
-    → Stands file old new (lies_from ram_start items) (e_phnum file) 0
-    → (i j : ℕ) → i < e_phnum file → j < loaded_size file i → ram_start ≤ p_vaddr file i + j
+    → Stands Physical file old new (lies_from ram_start items) (e_phnum file) 0
+    → (i j : ℕ) → i < e_phnum file → j < loaded_size file i → ram_start ≤ p_paddr file i + j
 all_in_ram file items old new stands i j numbered within =
-    lies_above items (p_vaddr file i + j) (stands.segments_writable i j numbered within)
+    lies_above items (p_paddr file i + j) (stands.segments_writable i j numbered within)
 
 -- ---- refusals
 
@@ -38,7 +41,7 @@ all_in_ram file items old new stands i j numbered within =
 pub ends_at : {M : Type 0} (reads : M → ℕ → MemAccessSize → M → Option ℕ → Type 0)
     (writes : M → ℕ → MemAccessSize → ℕ → M → Bool → Type 0) (bytes : M → ByteMap) (writable : ℕ → Bool)
     (file : List ℕ) (old new : M) (address : ℕ)
-    → StopsAt reads writes bytes writable file old new address
+    → StopsAt reads writes bytes writable Physical file old new address
     → EndsOutside file writable address
 ends_at reads writes bytes writable file old new address stops = record {
   n = stops.n;

@@ -10,7 +10,8 @@ use Rattle.rrs_board.specs.declared.effects.BoardEvent.{BoardEvent}
 use Rattle.rrs_board.specs.declared.memory.BoardMemory.{BoardMemory}
 use Rattle.rrs_board.specs.Registers.{board_bytes, board_writable, ram_start, BoardReads, BoardWrites}
 use Rattle.rrs_board.specs.Effects.{inputs_of, settled, event_after, reset_devices}
-use Rattle.rrs_elf.specs.Headers.{e_entry, e_phnum, p_vaddr}
+use Rattle.rrs_elf.specs.Headers.{e_entry, e_phnum, p_paddr}
+use Rattle.rrs_elf.specs.declared.program_headers.Addresses.TheVariants.{Physical}
 use Rattle.rrs_elf.specs.Loading.{Stands, loaded_size}
 use Rattle.rrs_memory.specs.SliceBytes.{bytes_from, lies_from}
 use Rattle.rrs_memory.specs.Loading.{Loaded}
@@ -85,15 +86,16 @@ pub record IsReset (ram : VecMemory) (pc : ℕ) (b : Board) : Type 0 where
   pub devices : b.memory.devices ≡ reset_devices
 
 -- The board starts with an executable: it is at reset, at the entry, with so many words of RAM,
--- which are 0 but for the bytes of the segments. All of these are in RAM.
+-- which are 0 but for the bytes of the segments, each at its physical address. All of these are in
+-- RAM.
 pub record StartsWith (file : List ℕ) (words : ℕ) (b : Board) : Type 0 where
   pub reset : IsReset b.memory.ram (e_entry file) b
   pub size : length b.memory.ram.mem.items ≡ words
-  pub loaded : Stands file (bytes_from ram_start (replicate words 0))
+  pub loaded : Stands Physical file (bytes_from ram_start (replicate words 0))
       (bytes_from ram_start b.memory.ram.mem.items)
       (lies_from ram_start b.memory.ram.mem.items) (e_phnum file) 0
   pub in_ram : (i j : ℕ) → i < e_phnum file → j < loaded_size file i
-      → ram_start ≤ p_vaddr file i + j
+      → ram_start ≤ p_paddr file i + j
 
 -- The board starts with an image: it is at reset, at the start of RAM, with so many words of RAM,
 -- which are 0 but for the bytes of the image, which stand from there on.
@@ -121,14 +123,14 @@ abbrev pub is_in_ram : ℕ → ℕ → Bool
 is_in_ram words address = nat_le ram_start address
     && (nat_lt address (ram_start + 4 * words) && nat_lt address (2 ^ 32))
 
--- A load of an executable ends at this address, that of byte k of segment n, which is not one of
--- these. All bytes of the segments before it are, and those of segment n before byte k.
+-- A load of an executable ends at this address, the physical one of byte k of segment n, which is
+-- not one of these. All bytes of the segments before it are, and those of segment n before byte k.
 pub record EndsOutside (file : List ℕ) (is_in : ℕ → Bool) (address : ℕ) : Type 0 where
   pub n : ℕ
   pub k : ℕ
   pub numbered : n < e_phnum file
   pub within : k < loaded_size file n
-  pub here : address ≡ p_vaddr file n + k
+  pub here : address ≡ p_paddr file n + k
   pub outside : is_in address ≡ false
-  pub segments : (i j : ℕ) → i < n → j < loaded_size file i → is_in (p_vaddr file i + j) ≡ true
-  pub part : (j : ℕ) → j < k → is_in (p_vaddr file n + j) ≡ true
+  pub segments : (i j : ℕ) → i < n → j < loaded_size file i → is_in (p_paddr file i + j) ≡ true
+  pub part : (j : ℕ) → j < k → is_in (p_paddr file n + j) ≡ true

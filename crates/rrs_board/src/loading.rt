@@ -1,12 +1,12 @@
 //! A board with an executable in its RAM.
 
 ghost use Rattle.std.specs.Prelude.{◌≡◌, ℕ, Err, IfOk};
-ghost use Rattle.rrs_elf.specs.Refusals.{first_refusal, checks};
+ghost use Rattle.rrs_elf.specs.Refusals.{first_refusal, checks_at};
 ghost use Rattle.rrs_board.specs.Boards.{StartsWith, EndsOutside, is_in_ram};
 
 use crate::board::Board;
 use crate::memory::Ram;
-use rrs_elf::{ElfError, Executable};
+use rrs_elf::{Addresses, ElfError, Executable};
 use std::alloc::Global;
 
 /// Why no board starts with a file.
@@ -14,31 +14,32 @@ use std::alloc::Global;
 pub enum BoardError {
     /// The file is no executable for this machine.
     Elf(ElfError),
-    /// The byte for this address is not for RAM.
+    /// The byte for this address, a physical one, is not for RAM.
     Refused(u32),
     /// Out of memory.
     OutOfMemory,
 }
 
 impl Board {
-    /// A board at reset with so many words of RAM, in which the segments of an executable stand,
-    /// and whose hart is at its entry (`starts`).
+    /// A board at reset with so many words of RAM, in which the segments of an executable stand at
+    /// their physical addresses, and whose hart is at its entry (`starts`).
     ///
     /// # Errors
     ///
     /// `BoardError::Elf` exactly where the file is refused, with its first refusal (`refused`,
     /// `elf`); `BoardError::Refused` only where a byte of a segment lies outside RAM, with the
-    /// address of the first one (`outside`); and `BoardError::OutOfMemory`.
+    /// physical address of the first one (`outside`); and `BoardError::OutOfMemory`.
     pub fn load(alloc: Global, file: &[u8], words: usize) -> Result<Board, BoardError>
         ensures starts { IfOk result (StartsWith file.now words) }
-        ensures refused { (refusal : ElfError) → first_refusal (checks file.now) ≡ Err refusal
+        ensures refused { (refusal : ElfError)
+            → first_refusal (checks_at Addresses.Physical file.now) ≡ Err refusal
             → result ≡ Err (BoardError.Elf refusal) }
         ensures elf { (refusal : ElfError) → result ≡ Err (BoardError.Elf refusal)
-            → first_refusal (checks file.now) ≡ Err refusal }
+            → first_refusal (checks_at Addresses.Physical file.now) ≡ Err refusal }
         ensures outside { (address : ℕ) → result ≡ Err (BoardError.Refused address)
             → EndsOutside file.now (is_in_ram words) address }
     {
-        let executable = match Executable::parse(file) {
+        let executable = match Executable::parse_at(file, Addresses::Physical) {
             Ok(executable) => executable,
             Err(error) => return Err(BoardError::Elf(error)),
         };

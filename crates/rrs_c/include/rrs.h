@@ -535,7 +535,7 @@ enum rrs_elf_refusal {
     RRS_ELF_SEGMENTS_OVERLAP = 20,     /* Two segments, of these numbers, share an address. */
     RRS_ELF_ENTRY_MISALIGNED = 21,     /* e_entry is this number, no multiple of 4. */
     RRS_ELF_ENTRY_OUTSIDE = 22,        /* e_entry is this number, in no segment. */
-    RRS_ELF_NOT_IN_WORDS = 31          /* Of rrs_elf_load: this address is not in the words. */
+    RRS_ELF_NOT_IN_WORDS = 31          /* Of a load: this address is not in the words. */
 };
 
 typedef struct rrs_elf {
@@ -578,11 +578,18 @@ rrs_elf rrs_elf_parse(const uint8_t *file, size_t size);
 /* The segment of this number, if the file is an executable that has it and it is loaded. */
 rrs_segment rrs_elf_segment(const uint8_t *file, size_t size, uint32_t index);
 
-/* Loads an executable into the words: of each segment, in their order, the bytes of the file and
- * then zeros. All other bytes stay. A file that is refused changes nothing. At an address that is
- * not in the words the load ends, and the bytes before it are loaded. */
+/* Loads an executable into the words: of each segment, in their order, at its virtual address the
+ * bytes of the file and then zeros. All other bytes stay. A file that is refused changes nothing. At
+ * an address that is not in the words the load ends, and the bytes before it are loaded. */
 rrs_loaded rrs_elf_load(const uint8_t *file, size_t size, uint32_t *words, size_t count,
                         uint32_t base);
+
+/* Loads an executable into the words, which are the RAM of a board, as rrs_elf_load does, but each
+ * segment at its physical address, and puts the hart at the entry. That the segments lie apart, and
+ * before the last address, is asked of their physical addresses. Where not all is loaded the board
+ * stays as it is. */
+rrs_loaded rrs_board_load(rrs_board *board, const uint8_t *file, size_t size, uint32_t *words,
+                          size_t count);
 
 /* The function that an address lies in, or else the nearest function or label before it in its
  * segment: of several at one address the one with the most bytes, and of those the first. Writes its

@@ -169,6 +169,10 @@ as_number b = if b then 1 else 0
 
 -- ---- where a board starts
 
+-- the board with its hart at an address
+abbrev pub with_pc : ℕ → RrsBoard → RrsBoard
+with_pc pc b = record b { hart = record b.hart { pc = pc } }
+
 -- a hart with these extensions, all of whose registers are 0, at an address, CSRs and devices at
 -- reset
 pub record IsResetInC (profile pc : ℕ) (b : RrsBoard) : Type 0 where

@@ -2,10 +2,11 @@
 use Rattle.std.specs.Prelude.{◌≡◌, ℕ, ◌+◌, ◌<◌, Bool, false, if◌then◌else◌, List, length, Some, None, Err}
 use Rattle.rrs_lib.specs.Bytes.{ByteMap}
 use Rattle.rrs_lib.specs.SliceBytes.{bytes_from, lies_from}
-use Rattle.rrs_elf.specs.Headers.{e_entry, e_phnum, p_vaddr, p_memsz, p_offset, p_filesz, p_flags}
-use Rattle.rrs_elf.specs.Executables.{IsExecutable, IsLoaded}
+use Rattle.rrs_elf.specs.Headers.{e_entry, e_phnum, p_vaddr, p_memsz, p_offset, p_filesz, p_flags, segment_start}
+use Rattle.rrs_elf.specs.declared.program_headers.Addresses.{Addresses}
+use Rattle.rrs_elf.specs.Executables.{IsExecutable, IsExecutableAt, IsLoaded}
 use Rattle.rrs_elf.specs.Loading.{Stands, loaded_size}
-use Rattle.rrs_elf.specs.Refusals.{first_refusal, checks}
+use Rattle.rrs_elf.specs.Refusals.{first_refusal, checks_at}
 use Rattle.rrs_elf.specs.SymbolTables.{symbol_table, symbol_checks, name_start, strings_end, IsName}
 use Rattle.rrs_elf.specs.Symbols.{Finds}
 use Rattle.rrs_elf.specs.declared.locations.Location.{Location}
@@ -97,36 +98,37 @@ pub data SegmentIn (file : List ℕ) (i : ℕ) (r : RrsSegment) : Type 0 where
 
 -- a load stopped at an address that is not writable, that of byte k of segment n, and what comes
 -- before it stands
-pub record StopsIn (file : List ℕ) (old new : ByteMap) (writable : ℕ → Bool) (address : ℕ)
-    : Type 0 where
+pub record StopsIn (at : Addresses) (file : List ℕ) (old new : ByteMap) (writable : ℕ → Bool)
+    (address : ℕ) : Type 0 where
   pub n : ℕ
   pub k : ℕ
   pub numbered : n < e_phnum file
   pub within : k < loaded_size file n
-  pub here : address ≡ p_vaddr file n + k
+  pub here : address ≡ segment_start at file n + k
   pub not_writable : writable address ≡ false
-  pub stands : Stands file old new writable n k
+  pub stands : Stands at file old new writable n k
 
--- An executable is loaded into words from a base on.
-pub data LoadsElf (file old new : List ℕ) (base : ℕ) (r : RrsLoaded) : Type 0 where
+-- An executable is loaded into words from a base on, its segments at these of their addresses.
+pub data LoadsElf (at : Addresses) (file old new : List ℕ) (base : ℕ) (r : RrsLoaded)
+    : Type 0 where
   -- each segment stands there
   IsWhole :
-      IsExecutable file
-      → Stands file (bytes_from base old) (bytes_from base new) (lies_from base old)
+      IsExecutableAt at file
+      → Stands at file (bytes_from base old) (bytes_from base new) (lies_from base old)
       (e_phnum file) 0
       → r ≡ record { refusal = 0; address = 0 }
-      → LoadsElf file old new base r
+      → LoadsElf at file old new base r
   -- an address is not in the words: refusal 31
   IsStopped :
-      IsExecutable file
-      → StopsIn file (bytes_from base old) (bytes_from base new) (lies_from base old) r.address
+      IsExecutableAt at file
+      → StopsIn at file (bytes_from base old) (bytes_from base new) (lies_from base old) r.address
       → r.refusal ≡ 31
-      → LoadsElf file old new base r
+      → LoadsElf at file old new base r
   -- the file is refused
   IsRefused : (error : ElfError)
-      → first_refusal (checks file) ≡ Err error → new ≡ old
+      → first_refusal (checks_at at file) ≡ Err error → new ≡ old
       → r ≡ record { refusal = (refused_elf error).refusal; address = 0 }
-      → LoadsElf file old new base r
+      → LoadsElf at file old new base r
 
 -- ---- a function
 

@@ -3,15 +3,17 @@
 
 ghost use Rattle.std.specs.Prelude.{◌≡◌, ◌↔◌, ◌≤◌, Err, OnOk, IfErr, MatchOption};
 ghost use Rattle.rrs_lib.specs.SliceBytes.{StaysLent, slice_bytes, slice_writable};
-ghost use Rattle.rrs_elf.specs.Headers.{e_phnum};
-ghost use Rattle.rrs_elf.specs.Executables.{IsExecutable};
+ghost use Rattle.rrs_elf.specs.Headers.{e_entry, e_phnum};
+ghost use Rattle.rrs_elf.specs.Executables.{IsExecutable, IsExecutableAt};
 ghost use Rattle.rrs_elf.specs.Loading.{Stands};
 ghost use Rattle.rrs_elf.specs.Refusals.{first_refusal, checks};
 ghost use Rattle.rrs_elf.specs.declared.errors.ElfError.{ElfError};
+ghost use Rattle.rrs_c.specs.Boards.{with_pc};
 ghost use Rattle.rrs_c.specs.Elf.{accepted_elf, told, refused_elf, SegmentIn, LoadsElf, StopsIn, FindsNone, Locates, FindsFunction, location_of, no_segment};
 
+use crate::board::RrsBoard;
 use crate::text::put_text;
-use rrs_elf::{ElfError, Executable, Location, Refused};
+use rrs_elf::{Addresses, ElfError, Executable, Location, Refused};
 use rrs_lib::memories::SliceMemory;
 
 /// What a file is: an executable, or why it is refused.
@@ -183,11 +185,16 @@ pub(crate) fn segment_of(file: &[u8], index: u32) -> RrsSegment
     }
 }
 
-/// Loads an executable into words.
-pub(crate) fn load_into(file: &[u8], words: &mut [u32], base: u32) -> RrsLoaded
-    ensures { LoadsElf file.now words.old words.new base result }
+/// Loads an executable into words, its segments at these of their addresses.
+pub(crate) fn load_into(
+    file: &[u8],
+    addresses: Addresses,
+    words: &mut [u32],
+    base: u32,
+) -> RrsLoaded
+    ensures { LoadsElf addresses file.now words.old words.new base result }
 {
-    let program = match Executable::parse(file) {
+    let program = match Executable::parse_at(file, addresses) {
         Ok(program) => program,
         Err(error) => {
             return RrsLoaded {
@@ -209,12 +216,24 @@ pub(crate) fn load_into(file: &[u8], words: &mut [u32], base: u32) -> RrsLoaded
     }
 }
 
+/// Puts the hart of a board at the entry of an executable of physical addresses.
+pub(crate) fn start_at_entry(board: &mut RrsBoard, file: &[u8])
+    ensures { IsExecutableAt Addresses.Physical file.now
+        → board.new ≡ with_pc (e_entry file.now) board.old }
+{
+    if let Ok(program) = Executable::parse_at(file, Addresses::Physical) {
+        board.hart.pc = program.entry();
+    }
+}
+
 /// Loads an executable into words that are lent, which stay lent.
 fn load_lent<'a>(program: &Executable<'_>, memory: &mut SliceMemory<'a>) -> Result<(), Refused>
-    ensures loaded { OnOk result (Stands program.now.file.now (slice_bytes memory.old)
-        (slice_bytes memory.new) (slice_writable memory.old) (e_phnum program.now.file.now) 0) }
-    ensures stopped { IfErr result (λ refused. StopsIn program.now.file.now (slice_bytes memory.old)
-        (slice_bytes memory.new) (slice_writable memory.old) refused.address) }
+    ensures loaded { OnOk result (Stands program.now.addresses program.now.file.now
+        (slice_bytes memory.old) (slice_bytes memory.new) (slice_writable memory.old)
+        (e_phnum program.now.file.now) 0) }
+    ensures stopped { IfErr result (λ refused. StopsIn program.now.addresses program.now.file.now
+        (slice_bytes memory.old) (slice_bytes memory.new) (slice_writable memory.old)
+        refused.address) }
     ensures lent { StaysLent memory.old memory.new }
 {
     match program.load(memory) {

@@ -47,6 +47,7 @@ ghost use Rattle.rrs_c.specs.Asking.{request_answer, IsAccess, given};
 ghost use Rattle.rrs_c.specs.Completing.{CompletesRetiring};
 ghost use Rattle.rrs_c.specs.Jumps.{StepAtJump, IsOnlyStepAtJump};
 ghost use Rattle.rrs_c.specs.Causes.{IsCode};
+ghost use Rattle.rrs_elf.specs.Headers.{e_entry};
 ghost use Rattle.rrs_elf.specs.Executables.{IsExecutable};
 ghost use Rattle.rrs_elf.specs.Refusals.{first_refusal, checks};
 ghost use Rattle.rrs_elf.specs.declared.errors.ElfError.{ElfError};
@@ -58,8 +59,9 @@ ghost use Rattle.rrs_machine.specs.MachineSteps.{MachineStep, IsOnlyMachineStep}
 ghost use Rattle.rrs_machine.specs.MachineRecords.{MachineRetires};
 ghost use Rattle.rrs_history.specs.Changes.{undone};
 ghost use Rattle.rrs_board.specs.Uart.{has_byte};
+ghost use Rattle.rrs_board.specs.Registers.{ram_start};
 ghost use Rattle.rrs_board.specs.Effects.{arrived, waits_for_input};
-ghost use Rattle.rrs_c.specs.Boards.{uart_in, devices_in, board_in_c, LentRun, event_in, IsBoardEnd, as_number, IsResetInC};
+ghost use Rattle.rrs_c.specs.Boards.{with_pc, uart_in, devices_in, board_in_c, LentRun, event_in, IsBoardEnd, as_number, IsResetInC};
 ghost use Rattle.rrs_c.specs.Machines.{profile_in, csrs_in, machine_in_c, inputs_in, machine_answer, IsOutcome, machine_retired_in, IsMachineRecord, csr_told, csr_to_write, file_after, was_written};
 ghost use Rattle.rrs_c.specs.Undoing.{change_in, IsChange};
 ghost use Rattle.rrs_lent.specs.Heaps.{IsBack};
@@ -74,7 +76,10 @@ use cached::run_over_cache;
 use causes::code_of;
 use comparison::{RrsDifference, first_difference};
 use completed::complete_retired;
-use elf::{RrsElf, RrsLoaded, RrsLocation, RrsSegment, elf_of, function_of, load_into, segment_of};
+use elf::{
+    RrsElf, RrsLoaded, RrsLocation, RrsSegment, elf_of, function_of, load_into, segment_of,
+    start_at_entry,
+};
 use hart::{
     RrsEnd, RrsFault, RrsHart, close, end_of_run, end_of_stop, fault_of, fault_of_answer, last_of,
     number_of, opened,
@@ -92,6 +97,8 @@ use machine::{
 };
 use names::{fault_name, field_name, put_name, register_name, row_name};
 use retired::{RrsRetired, refused, written_out};
+use rrs_board::memory::RAM_START;
+use rrs_elf::Addresses;
 use rrs_fast::WordTable;
 use rrs_lent::{LentHeap, Room, RrsAssembled, RrsMistake, RrsStatement, RrsSymbol, assemble_lent};
 use rrs_lib::disassembly::Disassembled;
@@ -452,6 +459,22 @@ pub extern "C" fn rrs_board_reset(board: &mut RrsBoard, profile: u32, pc: u32)
     *board = reset_board(profile, pc);
 }
 
+/// Loads an executable into the words that are the RAM of a board, and puts its hart at the entry:
+/// of each segment, at its physical address, the bytes of the file, and then zeros. It ends at the
+/// first address that is not in RAM. Where not all is loaded the board stays as it is.
+#[unsafe(no_mangle)]
+pub extern "C" fn rrs_board_load(board: &mut RrsBoard, file: &[u8], words: &mut [u32]) -> RrsLoaded
+    ensures loaded { LoadsElf Addresses.Physical file.now words.old words.new ram_start result }
+    ensures started { result.refusal ≡ 0 → board.new ≡ with_pc (e_entry file.now) board.old }
+    ensures kept { 1 ≤ result.refusal → board.new ≡ board.old }
+{
+    let loaded = load_into(file, Addresses::Physical, words, RAM_START);
+    if loaded.refusal == 0 {
+        start_at_entry(board, file);
+    }
+    loaded
+}
+
 /// Makes steps of a board whose RAM is these words, until as many as `limit` were made, or a device
 /// has something for the caller. A further call goes on from there.
 ///
@@ -655,13 +678,13 @@ pub extern "C" fn rrs_elf_segment(file: &[u8], index: u32) -> RrsSegment
     segment_of(file, index)
 }
 
-/// Loads an executable into words from a base on: of each segment the bytes of the file, and then
-/// zeros. It ends at the first address that is not in the words.
+/// Loads an executable into words from a base on: of each segment, at its virtual address, the bytes
+/// of the file, and then zeros. It ends at the first address that is not in the words.
 #[unsafe(no_mangle)]
 pub extern "C" fn rrs_elf_load(file: &[u8], words: &mut [u32], base: u32) -> RrsLoaded
-    ensures { LoadsElf file.now words.old words.new base result }
+    ensures { LoadsElf Addresses.Virtual file.now words.old words.new base result }
 {
-    load_into(file, words, base)
+    load_into(file, Addresses::Virtual, words, base)
 }
 
 /// The function that an address lies in, or else the nearest function or label before it, whose

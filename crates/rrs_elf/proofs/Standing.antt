@@ -6,46 +6,47 @@ use Rattle.rrs_memory.specs.Bytes.{ByteMap}
 use Rattle.rrs_memory.specs.AccessLists.{Access, Makes}
 use Rattle.rrs_memory.specs.Loading.{Loaded}
 use Rattle.rrs_memory.proofs.ByteLemmas.{outside_from_none}
-use Rattle.rrs_elf.specs.Headers.{e_phnum, p_vaddr}
-use Rattle.rrs_elf.specs.Executables.{HasAddress, IsExecutable}
+use Rattle.rrs_elf.specs.Headers.{e_phnum, segment_start}
+use Rattle.rrs_elf.specs.declared.program_headers.Addresses.{Addresses}
+use Rattle.rrs_elf.specs.Executables.{HasAddress, IsExecutableAt}
 use Rattle.rrs_elf.specs.Loading.{segment_byte, segment_bytes, loaded_size, Stands}
 use Rattle.rrs_elf.proofs.SegmentBytes.{length-segment_bytes, at-segment_bytes}
 
 -- a byte that is loaded has an address of its segment
-pub has_loaded : (file : List ℕ) (i j : ℕ) → i < e_phnum file → j < loaded_size file i → HasAddress file i (p_vaddr file i + j)
-has_loaded file i j numbered below = record {
+pub has_loaded : (at : Addresses) (file : List ℕ) (i j : ℕ) → i < e_phnum file → j < loaded_size file i → HasAddress at file i (segment_start at file i + j)
+has_loaded at file i j numbered below = record {
   loaded = record { numbered = numbered; of_type = grind (arith, nat_tests, below) };
   from_start = omega arith;
   before_end = grind (arith, nat_tests, below);
 }
 
 -- it lies below 2 ^ 32
-pub loaded_low : (file : List ℕ) (i j : ℕ) → IsExecutable file → i < e_phnum file → j < loaded_size file i → p_vaddr file i + j < 2 ^ 32
-loaded_low file i j is numbered below =
-    let has = has_loaded file i j numbered below in
+pub loaded_low : (at : Addresses) (file : List ℕ) (i j : ℕ) → IsExecutableAt at file → i < e_phnum file → j < loaded_size file i → segment_start at file i + j < 2 ^ 32
+loaded_low at file i j is numbered below =
+    let has = has_loaded at file i j numbered below in
     let end = has.before_end in
     let low = is.addresses i has.loaded in
     omega arith
 
 -- the first k bytes more, of the next segment
-pub Stands-part : (file : List ℕ) (old mid new : ByteMap) (writable writable' : ℕ → Bool) (n k : ℕ) → IsExecutable file → n < e_phnum file → k ≤ loaded_size file n
-    → Stands file old mid writable n 0 → writable' ≡ writable → Loaded mid new writable' (p_vaddr file n) (segment_bytes file n k) → Stands file old new writable n k
-Stands-part file old mid new writable writable' n k is numbered within before kept loaded =
+pub Stands-part : (at : Addresses) (file : List ℕ) (old mid new : ByteMap) (writable writable' : ℕ → Bool) (n k : ℕ) → IsExecutableAt at file → n < e_phnum file → k ≤ loaded_size file n
+    → Stands at file old mid writable n 0 → writable' ≡ writable → Loaded mid new writable' (segment_start at file n) (segment_bytes file n k) → Stands at file old new writable n k
+Stands-part at file old mid new writable writable' n k is numbered within before kept loaded =
     let many = length-segment_bytes file n k in
-    let start : ℕ = p_vaddr file n in
+    let start : ℕ = segment_start at file n in
     record {
       segments = λ i j below inside.
-          let a : ℕ = p_vaddr file i + j in
-          let mine = has_loaded file i j (omega (arith, below)) inside in
+          let a : ℕ = segment_start at file i + j in
+          let mine = has_loaded at file i j (omega (arith, below)) inside in
           let outside : (a < start) ⊎ (start + length (segment_bytes file n k) ≤ a) =
           elim (place a start k) [
             | inl low ↦ inl low
             | inr rest ↦ elim rest [
               | inl high ↦ inr (omega (arith, high, many))
               | inr here ↦
-                  let other = has_loaded file n (a - start) numbered (omega (arith, here.1)) in
+                  let other = has_loaded at file n (a - start) numbered (omega (arith, here.1)) in
                   let again : start + (a - start) ≡ a = omega (arith, here.0) in
-                  let same = is.apart i n a mine (subst (λ b. HasAddress file n b) again other) in
+                  let same = is.apart i n a mine (subst (λ b. HasAddress at file n b) again other) in
                   absurd (omega (arith, same, below))
             ]
           ] in
@@ -63,11 +64,11 @@ Stands-part file old mid new writable writable' n k is numbered within before ke
     place a start k = grind arith
 
 -- the whole of a segment
-pub Stands-next : (file : List ℕ) (old new : ByteMap) (writable : ℕ → Bool) (n : ℕ) → Stands file old new writable n (loaded_size file n) → Stands file old new writable (suc n) 0
-Stands-next file old new writable n stands = record {
-  segments = λ i j below inside. elim (less i n below) [ inl earlier ↦ stands.segments i j earlier inside | inr same ↦ subst (λ i. new (p_vaddr file i + j) ≡ Some (segment_byte file i j)) (sym same) (stands.part j (rw same at inside)) ];
+pub Stands-next : (at : Addresses) (file : List ℕ) (old new : ByteMap) (writable : ℕ → Bool) (n : ℕ) → Stands at file old new writable n (loaded_size file n) → Stands at file old new writable (suc n) 0
+Stands-next at file old new writable n stands = record {
+  segments = λ i j below inside. elim (less i n below) [ inl earlier ↦ stands.segments i j earlier inside | inr same ↦ subst (λ i. new (segment_start at file i + j) ≡ Some (segment_byte file i j)) (sym same) (stands.part j (rw same at inside)) ];
   part = λ j below. absurd (omega (arith, below));
-  segments_writable = λ i j below inside. elim (less i n below) [ inl earlier ↦ stands.segments_writable i j earlier inside | inr same ↦ subst (λ i. writable (p_vaddr file i + j) ≡ true) (sym same) (stands.part_writable j (rw same at inside)) ];
+  segments_writable = λ i j below inside. elim (less i n below) [ inl earlier ↦ stands.segments_writable i j earlier inside | inr same ↦ subst (λ i. writable (segment_start at file i + j) ≡ true) (sym same) (stands.part_writable j (rw same at inside)) ];
   part_writable = λ j below. absurd (omega (arith, below));
   others = λ a none none_here. stands.others a (λ i j below. none i j (omega (arith, below))) (λ j below. none n j (omega arith) below);
   mapped = stands.mapped;

@@ -2,7 +2,9 @@
 -- ELF psABI, "ELF Object Files", "File Header"): 32 bits, lowest byte first, linked to fixed
 -- addresses, for RV32I with M and the integer calling convention.
 use Rattle.std.specs.Prelude.{◌≡◌, ◌≢◌, ℕ, ◌+◌, ◌*◌, ◌/◌, ◌%◌, ◌^◌, ◌<◌, ◌≤◌, List, length, slice_index}
-use Rattle.rrs_elf.specs.Headers.{e_ident_class, e_ident_data, e_ident_version, e_type, e_machine, e_version, e_entry, e_phoff, e_flags, e_phentsize, e_phnum, p_type, p_offset, p_vaddr, p_filesz, p_memsz}
+use Rattle.rrs_elf.specs.Headers.{e_ident_class, e_ident_data, e_ident_version, e_type, e_machine, e_version, e_entry, e_phoff, e_flags, e_phentsize, e_phnum, p_type, p_offset, p_filesz, p_memsz, segment_start}
+use Rattle.rrs_elf.specs.declared.program_headers.Addresses.{Addresses}
+use Rattle.rrs_elf.specs.declared.program_headers.Addresses.TheVariants.{Virtual}
 
 -- PT_INTERP, the type of a segment with the name of a program that loads this one
 abbrev pub PT_INTERP : ℕ
@@ -17,14 +19,14 @@ pub record IsLoaded (file : List ℕ) (i : ℕ) : Type 0 where
   pub numbered : i < e_phnum file
   pub of_type : p_type file i ≡ PT_LOAD
 
--- segment i is loaded, and the address is one of the p_memsz addresses from p_vaddr on
-pub record HasAddress (file : List ℕ) (i address : ℕ) : Type 0 where
+-- segment i is loaded, and the address is one of the p_memsz addresses from where it begins on
+pub record HasAddress (at : Addresses) (file : List ℕ) (i address : ℕ) : Type 0 where
   pub loaded : IsLoaded file i
-  pub from_start : p_vaddr file i ≤ address
-  pub before_end : address < p_vaddr file i + p_memsz file i
+  pub from_start : segment_start at file i ≤ address
+  pub before_end : address < segment_start at file i + p_memsz file i
 
--- An executable that this machine can run.
-pub record IsExecutable (file : List ℕ) : Type 0 where
+-- An executable that this machine can run, whose segments are loaded at these of their addresses.
+pub record IsExecutableAt (at : Addresses) (file : List ℕ) : Type 0 where
   -- the whole ELF header, which begins with 0x7f and "ELF"
   pub whole : 52 ≤ length file
   pub magic : (slice_index file 0 ≡ 0x7f) × (slice_index file 1 ≡ 0x45)
@@ -52,9 +54,14 @@ pub record IsExecutable (file : List ℕ) : Type 0 where
       → p_offset file i + k < length file
   pub sizes : (i : ℕ) → IsLoaded file i → p_filesz file i ≤ p_memsz file i
   -- addresses end at 2 ^ 32
-  pub addresses : (i : ℕ) → IsLoaded file i → p_vaddr file i + p_memsz file i ≤ 2 ^ 32
+  pub addresses : (i : ℕ) → IsLoaded file i → segment_start at file i + p_memsz file i ≤ 2 ^ 32
   -- no address is one of two segments
-  pub apart : (i j address : ℕ) → HasAddress file i address → HasAddress file j address → i ≡ j
-  -- the entry is the address of an instruction, in one of the segments
+  pub apart : (i j address : ℕ)
+      → HasAddress at file i address → HasAddress at file j address → i ≡ j
+  -- the entry is the virtual address of an instruction, in one of the segments
   pub entry_aligned : e_entry file % 4 ≡ 0
-  pub entry_inside : (i : ℕ) × HasAddress file i (e_entry file)
+  pub entry_inside : (i : ℕ) × HasAddress Virtual file i (e_entry file)
+
+-- one whose segments are loaded at their virtual addresses, as those of a process
+abbrev pub IsExecutable : List ℕ → Type 0
+IsExecutable file = IsExecutableAt Virtual file

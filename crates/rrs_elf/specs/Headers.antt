@@ -3,6 +3,8 @@
 -- (Elf32_Phdr).
 use Rattle.std.specs.Prelude.{ℕ, ◌+◌, ◌*◌, List, slice_index}
 use Rattle.rrs_elf.specs.Numbers.{half, word}
+use Rattle.rrs_elf.specs.declared.program_headers.Addresses.{Addresses}
+use Rattle.rrs_elf.specs.declared.program_headers.Addresses.TheVariants.{Virtual, Physical}
 
 -- ---- the ELF header
 
@@ -76,3 +78,8 @@ p_flags file i = word file (program_header_start file i + 24)
 
 abbrev pub p_align : List ℕ → ℕ → ℕ
 p_align file i = word file (program_header_start file i + 28)
+
+-- where segment i begins, by which of its two addresses is meant
+abbrev pub segment_start : Addresses → List ℕ → ℕ → ℕ
+segment_start Virtual file i = p_vaddr file i
+segment_start Physical file i = p_paddr file i

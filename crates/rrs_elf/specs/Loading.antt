@@ -1,12 +1,15 @@
 -- What a load leaves (System V generic ABI, "Program Header", PT_LOAD): "The bytes from the file
 -- are mapped to the beginning of the memory segment. If the segment's memory size is larger than
--- the file size, the extra bytes are defined to hold the value 0." And which accesses it makes.
+-- the file size, the extra bytes are defined to hold the value 0." And which accesses it makes. A
+-- segment is loaded at its virtual address, p_vaddr, or "on systems for which physical addressing
+-- is relevant" at its physical one, p_paddr.
 use Rattle.std.specs.Prelude.{◌≡◌, ◌≢◌, ◌==◌, ℕ, zero, suc, ◌+◌, ◌<◌, Bool, true, false, nat_lt, if◌then◌else◌, List, [], ◌∷◌, ◌++◌, slice_index, Option, Some, is_some}
 use Rattle.rrs_memory.specs.declared.MemAccessSize.{MemAccessSize}
 use Rattle.rrs_memory.specs.Bytes.{ByteMap}
 use Rattle.rrs_memory.specs.AccessLists.{Access, Makes}
 use Rattle.rrs_memory.specs.Loading.{byte_writes}
-use Rattle.rrs_elf.specs.Headers.{e_phnum, p_type, p_offset, p_vaddr, p_filesz, p_memsz}
+use Rattle.rrs_elf.specs.Headers.{e_phnum, p_type, p_offset, p_filesz, p_memsz, segment_start}
+use Rattle.rrs_elf.specs.declared.program_headers.Addresses.{Addresses}
 use Rattle.rrs_elf.specs.Executables.{PT_LOAD}
 
 -- the byte that segment i has at its k-th address: one of the file, or 0 behind them
@@ -25,24 +28,25 @@ loaded_size file i = if p_type file i == PT_LOAD then p_memsz file i else 0
 
 -- The memory has the first n segments, and the first k bytes of segment n, at addresses that are
 -- writable. All other bytes are as before.
-pub record Stands (file : List ℕ) (old new : ByteMap) (writable : ℕ → Bool) (n k : ℕ)
-    : Type 0 where
+pub record Stands (at : Addresses) (file : List ℕ) (old new : ByteMap) (writable : ℕ → Bool)
+    (n k : ℕ) : Type 0 where
   pub segments : (i j : ℕ) → i < n → j < loaded_size file i
-      → new (p_vaddr file i + j) ≡ Some (segment_byte file i j)
-  pub part : (j : ℕ) → j < k → new (p_vaddr file n + j) ≡ Some (segment_byte file n j)
+      → new (segment_start at file i + j) ≡ Some (segment_byte file i j)
+  pub part : (j : ℕ) → j < k → new (segment_start at file n + j) ≡ Some (segment_byte file n j)
   pub segments_writable : (i j : ℕ) → i < n → j < loaded_size file i
-      → writable (p_vaddr file i + j) ≡ true
-  pub part_writable : (j : ℕ) → j < k → writable (p_vaddr file n + j) ≡ true
-  pub others : (a : ℕ) → ((i j : ℕ) → i < n → j < loaded_size file i → a ≢ p_vaddr file i + j)
-      → ((j : ℕ) → j < k → a ≢ p_vaddr file n + j) → new a ≡ old a
+      → writable (segment_start at file i + j) ≡ true
+  pub part_writable : (j : ℕ) → j < k → writable (segment_start at file n + j) ≡ true
+  pub others : (a : ℕ)
+      → ((i j : ℕ) → i < n → j < loaded_size file i → a ≢ segment_start at file i + j)
+      → ((j : ℕ) → j < k → a ≢ segment_start at file n + j) → new a ≡ old a
   pub mapped : (a : ℕ) → is_some (new a) ≡ is_some (old a)
 
 -- One write for each byte of the first n segments, segment by segment and in the order of the
 -- addresses, with the answers that the laws of a memory give them.
-abbrev pub segment_writes : (ℕ → Bool) → List ℕ → ℕ → List Access
-segment_writes writable file zero = []
-segment_writes writable file (suc n) = segment_writes writable file n
-    ++ byte_writes writable (p_vaddr file n) (segment_bytes file n (loaded_size file n))
+abbrev pub segment_writes : Addresses → (ℕ → Bool) → List ℕ → ℕ → List Access
+segment_writes at writable file zero = []
+segment_writes at writable file (suc n) = segment_writes at writable file n
+    ++ byte_writes writable (segment_start at file n) (segment_bytes file n (loaded_size file n))
 
 -- By what a memory of type M says of its reads and its writes: a load took it from old to new, and
 -- ended at an address that is not writable, that of byte k of segment n. What comes before stands,
@@ -50,14 +54,14 @@ segment_writes writable file (suc n) = segment_writes writable file n
 pub record StopsAt {M : Type 0}
     (reads : M → ℕ → MemAccessSize → M → Option ℕ → Type 0)
     (writes : M → ℕ → MemAccessSize → ℕ → M → Bool → Type 0)
-    (bytes : M → ByteMap) (writable : ℕ → Bool) (file : List ℕ) (old new : M) (address : ℕ)
-    : Type 0 where
+    (bytes : M → ByteMap) (writable : ℕ → Bool) (at : Addresses) (file : List ℕ) (old new : M)
+    (address : ℕ) : Type 0 where
   pub n : ℕ
   pub k : ℕ
   pub numbered : n < e_phnum file
   pub within : k < loaded_size file n
-  pub here : address ≡ p_vaddr file n + k
+  pub here : address ≡ segment_start at file n + k
   pub not_writable : writable address ≡ false
-  pub stands : Stands file (bytes old) (bytes new) writable n k
-  pub made : Makes reads writes (segment_writes writable file n
-      ++ byte_writes writable (p_vaddr file n) (segment_bytes file n (suc k))) old new
+  pub stands : Stands at file (bytes old) (bytes new) writable n k
+  pub made : Makes reads writes (segment_writes at writable file n
+      ++ byte_writes writable (segment_start at file n) (segment_bytes file n (suc k))) old new

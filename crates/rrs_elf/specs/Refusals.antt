@@ -4,7 +4,9 @@
 use Rattle.std.specs.Prelude.{ℕ, zero, suc, ◌+◌, ◌*◌, ◌/◌, ◌%◌, ◌^◌, Bool, false, not, ◌&&◌, ◌||◌, ◌==◌, nat_le, nat_lt, min, max, if◌then◌else◌, List, [], ◌∷◌, ◌++◌, length, slice_index, Result, Ok, Err, is_ok}
 use Rattle.rrs_elf.specs.declared.errors.ElfError.{ElfError}
 use Rattle.rrs_elf.specs.declared.errors.ElfError.TheVariants.{NotElf, HeaderCutShort, Class, ByteOrder, IdentVersion, PositionIndependent, NotExecutable, Machine, Version, CompressedCode, FloatingPoint, Embedded, ProgramHeaderSize, TooManyProgramHeaders, ProgramHeadersCutShort, Interpreter, SegmentCutShort, SegmentSizes, SegmentPastLastAddress, SegmentsOverlap, EntryMisaligned, EntryOutside}
-use Rattle.rrs_elf.specs.Headers.{e_ident_class, e_ident_data, e_ident_version, e_type, e_machine, e_version, e_entry, e_phoff, e_flags, e_phentsize, e_phnum, p_type, p_offset, p_vaddr, p_filesz, p_memsz}
+use Rattle.rrs_elf.specs.Headers.{e_ident_class, e_ident_data, e_ident_version, e_type, e_machine, e_version, e_entry, e_phoff, e_flags, e_phentsize, e_phnum, p_type, p_offset, p_vaddr, p_filesz, p_memsz, segment_start}
+use Rattle.rrs_elf.specs.declared.program_headers.Addresses.{Addresses}
+use Rattle.rrs_elf.specs.declared.program_headers.Addresses.TheVariants.{Virtual}
 use Rattle.rrs_elf.specs.Executables.{PT_INTERP, PT_LOAD}
 
 -- a check: whether the file fails it, and what it is then refused for
@@ -69,28 +71,28 @@ ends_past_file file i =
     nat_lt 0 (p_filesz file i) && nat_lt (length file) (p_offset file i + p_filesz file i)
 
 -- segments j and i are loaded, and the later of their starts is before the earlier of their ends
-abbrev pub overlap : List ℕ → ℕ → ℕ → Bool
-overlap file j i = is_loaded file j && is_loaded file i
-    && nat_lt (max (p_vaddr file j) (p_vaddr file i))
-    (min (p_vaddr file j + p_memsz file j) (p_vaddr file i + p_memsz file i))
+abbrev pub overlap : Addresses → List ℕ → ℕ → ℕ → Bool
+overlap at file j i = is_loaded file j && is_loaded file i
+    && nat_lt (max (segment_start at file j) (segment_start at file i))
+    (min (segment_start at file j + p_memsz file j) (segment_start at file i + p_memsz file i))
 
-unfoldable pub place_checks : List ℕ → ℕ → List Check
-place_checks file i =
+unfoldable pub place_checks : Addresses → List ℕ → ℕ → List Check
+place_checks at file i =
     (p_type file i == PT_INTERP, Interpreter i)
     ∷ (is_loaded file i && ends_past_file file i, SegmentCutShort i)
     ∷ (is_loaded file i && nat_lt (p_memsz file i) (p_filesz file i), SegmentSizes i)
     ∷ (
-      is_loaded file i && nat_lt (2 ^ 32) (p_vaddr file i + p_memsz file i),
+      is_loaded file i && nat_lt (2 ^ 32) (segment_start at file i + p_memsz file i),
       SegmentPastLastAddress i,
     )
     ∷ []
 
-unfoldable pub overlap_check : List ℕ → ℕ → ℕ → List Check
-overlap_check file i j = (overlap file j i, SegmentsOverlap j i) ∷ []
+unfoldable pub overlap_check : Addresses → List ℕ → ℕ → ℕ → List Check
+overlap_check at file i j = (overlap at file j i, SegmentsOverlap j i) ∷ []
 
 -- segment i by itself, and then with each before it
-abbrev pub segment_checks : List ℕ → ℕ → List Check
-segment_checks file i = place_checks file i ++ checks_below (overlap_check file i) i
+abbrev pub segment_checks : Addresses → List ℕ → ℕ → List Check
+segment_checks at file i = place_checks at file i ++ checks_below (overlap_check at file i) i
 
 -- ---- the entry
 
@@ -112,11 +114,15 @@ entry_checks file =
 
 -- ---- all of them
 
-abbrev pub checks : List ℕ → List Check
-checks file = identification_checks file ++ (kind_checks file ++ (flag_checks file
-    ++ (table_checks file ++ (checks_below (segment_checks file) (e_phnum file)
+-- for segments that are loaded at these of their addresses
+abbrev pub checks_at : Addresses → List ℕ → List Check
+checks_at at file = identification_checks file ++ (kind_checks file ++ (flag_checks file
+    ++ (table_checks file ++ (checks_below (segment_checks at file) (e_phnum file)
     ++ entry_checks file))))
 
+abbrev pub checks : List ℕ → List Check
+checks file = checks_at Virtual file
+
 -- whether a file is accepted
-abbrev pub is_accepted : List ℕ → Bool
-is_accepted file = is_ok (first_refusal (checks file))
+abbrev pub is_accepted : Addresses → List ℕ → Bool
+is_accepted at file = is_ok (first_refusal (checks_at at file))

@@ -1,14 +1,14 @@
 //! Which files are accepted.
 
 ghost use Rattle.std.specs.Prelude.{◌≡◌, ◌↔◌, ◌+◌, ◌*◌, ◌%◌, ◌^◌, ◌<◌, ◌≤◌, ℕ, length, IfOk, IfErr, IsOk, Err, IsTrue, IsSome, IfSome};
-ghost use Rattle.rrs_elf.specs.Headers.{e_entry, e_phnum, e_phoff};
+ghost use Rattle.rrs_elf.specs.Headers.{e_entry, e_phnum, e_phoff, segment_start};
 ghost use Rattle.rrs_elf.specs.ProgramHeaders.{IsProgramHeader};
-ghost use Rattle.rrs_elf.specs.Executables.{IsLoaded, IsExecutable};
-ghost use Rattle.rrs_elf.specs.Refusals.{first_refusal, identification_checks, kind_checks, flag_checks, table_checks, entry_checks, checks, begins_as_elf, is_accepted};
+ghost use Rattle.rrs_elf.specs.Executables.{IsLoaded, IsExecutable, IsExecutableAt};
+ghost use Rattle.rrs_elf.specs.Refusals.{first_refusal, identification_checks, kind_checks, flag_checks, table_checks, entry_checks, checks, checks_at, begins_as_elf, is_accepted};
 
 use crate::errors::ElfError;
 use crate::numbers::{read_byte, read_half, read_word};
-use crate::program_headers::{ProgramHeader, read_header_count, read_program_header};
+use crate::program_headers::{Addresses, ProgramHeader, read_header_count, read_program_header};
 use crate::segments::{check_segments, one_segment_has};
 
 /// The size of an ELF header.
@@ -130,14 +130,14 @@ fn check_entry(file: &[u8]) -> Result<(), ElfError>
 
 /// Makes all checks, in their order.
 #[tactic(auto, using(crate::proofs::CheckLists::joined))]
-fn check(file: &[u8]) -> Result<(), ElfError>
-    ensures { result ≡ first_refusal (checks file.now) }
+fn check(file: &[u8], addresses: Addresses) -> Result<(), ElfError>
+    ensures { result ≡ first_refusal (checks_at addresses file.now) }
 {
     check_identification(file)?;
     check_kind(file)?;
     check_flags(file)?;
     check_table(file)?;
-    check_segments(file)?;
+    check_segments(file, addresses)?;
     check_entry(file)
 }
 
@@ -146,22 +146,39 @@ fn check(file: &[u8]) -> Result<(), ElfError>
 pub struct Executable<'a> {
     /// The bytes of the file.
     pub file: &'a [u8],
-    ghost accepted: { IsTrue (is_accepted file.now) },
+    /// Which addresses its segments are loaded at.
+    pub addresses: Addresses,
+    ghost accepted: { IsTrue (is_accepted addresses file.now) },
 }
 
 impl<'a> Executable<'a> {
-    /// Accepts the bytes of a file where they are an executable for this machine, and otherwise
-    /// answers the first refusal: see [ElfError] for the order.
+    /// Accepts the bytes of a file where they are an executable for this machine, whose segments
+    /// are loaded at their virtual addresses, and otherwise answers the first refusal: see
+    /// [ElfError] for the order.
     pub fn parse(file: &'a [u8]) -> Result<Executable<'a>, ElfError>
         ensures accepted { IsOk result ↔ IsExecutable file.now }
         ensures refused { IfErr result (λ error. first_refusal (checks file.now) ≡ Err error) }
         ensures same { IfOk result (λ made. made.file.now ≡ file.now) }
+        ensures placed { IfOk result (λ made. made.addresses ≡ Addresses.Virtual) }
     {
-        check(file)?;
-        Ok(Executable { file })
+        Executable::parse_at(file, Addresses::Virtual)
     }
 
-    /// The address of the first instruction (`e_entry`): a multiple of 4 in a loaded segment.
+    /// The same of an executable whose segments are loaded at these of their addresses: that they
+    /// have room and lie apart is asked of these.
+    pub fn parse_at(file: &'a [u8], addresses: Addresses) -> Result<Executable<'a>, ElfError>
+        ensures accepted { IsOk result ↔ IsExecutableAt addresses file.now }
+        ensures refused { IfErr result (λ error.
+            first_refusal (checks_at addresses file.now) ≡ Err error) }
+        ensures same { IfOk result (λ made. made.file.now ≡ file.now) }
+        ensures placed { IfOk result (λ made. made.addresses ≡ addresses) }
+    {
+        check(file, addresses)?;
+        Ok(Executable { file, addresses })
+    }
+
+    /// The address of the first instruction (`e_entry`): a multiple of 4, and a virtual one of a
+    /// loaded segment.
     pub fn entry(&self) -> u32
         ensures value { result ≡ e_entry self.now.file.now }
         ensures aligned { result % 4 ≡ 0 }
@@ -195,15 +212,15 @@ impl<'a> Executable<'a> {
     /// of their program headers.
     ///
     /// Its bytes are bytes of the file, and those of the file are as many as those in memory or
-    /// fewer. It ends at 2^32 or before.
+    /// fewer. Where it is loaded it ends at 2^32 or before.
     pub fn segment(&self, index: u16) -> Option<ProgramHeader>
         ensures loaded { IsSome result ↔ IsLoaded self.now.file.now index }
         ensures value { IfSome result (IsProgramHeader self.now.file.now index) }
         ensures sizes { IfSome result (λ segment. segment.file_size ≤ segment.memory_size) }
         ensures within_file { IfSome result (λ segment. 0 < segment.file_size
             → segment.offset + segment.file_size ≤ length self.now.file.now) }
-        ensures addresses { IfSome result (λ segment.
-            segment.address + segment.memory_size ≤ 2 ^ 32) }
+        ensures addresses { IfSome result (λ segment. segment_start self.now.addresses
+            self.now.file.now index + segment.memory_size ≤ 2 ^ 32) }
     {
         let header = self.program_header(index)?;
         if header.is_loaded() {

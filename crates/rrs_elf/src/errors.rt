@@ -48,13 +48,15 @@ pub enum ElfError {
     SegmentCutShort(u16),
     /// The `p_filesz` of the loaded segment of this number is greater than its `p_memsz`.
     SegmentSizes(u16),
-    /// The loaded segment of this number, by `p_vaddr` and `p_memsz`, ends past the last address.
+    /// The loaded segment of this number, by `p_memsz` and the address that it is loaded at, ends
+    /// past the last address.
     SegmentPastLastAddress(u16),
-    /// The loaded segments of these numbers, the smaller first, have an address in common.
+    /// The loaded segments of these numbers, the smaller first, have an address in common where
+    /// they are loaded.
     SegmentsOverlap(u16, u16),
     /// `e_entry` is this, and no multiple of 4.
     EntryMisaligned(u32),
-    /// `e_entry` is this, and no loaded segment has the address.
+    /// `e_entry` is this, and no loaded segment has the virtual address.
     EntryOutside(u32),
     /// `e_shentsize` is this, and not 40. This and what follows are refusals of the symbol table,
     /// by [crate::Executable::symbols].

@@ -4,7 +4,8 @@
 //! that this machine can run: 32 bits, lowest byte first, for RISC-V without compressed code and
 //! without a floating-point ABI, linked to fixed addresses. A file that it refuses gets the first
 //! refusal of a list, [ElfError]. [Executable] then answers from these bytes: its entry, its
-//! segments, and its symbol table. [Executable::load] writes the segments into a memory.
+//! segments, and its symbol table. [Executable::load] writes the segments into a memory, at their
+//! virtual addresses, or, after [Executable::parse_at], at their physical ones.
 //!
 //! ```text
 //! let program = Executable::parse(&file)?;         // a `&[u8]`, and an `ElfError`
@@ -37,5 +38,5 @@ pub use accepting::Executable;
 pub use errors::ElfError;
 pub use loading::Refused;
 pub use locations::Location;
-pub use program_headers::ProgramHeader;
+pub use program_headers::{Addresses, ProgramHeader};
 pub use symbol_table::{Symbol, Symbols};

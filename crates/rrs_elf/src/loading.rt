@@ -3,13 +3,13 @@
 ghost use Rattle.std.specs.Prelude.{◌≡◌, ◌<◌, ◌≤◌, ◌+◌, ◌^◌, false, suc, OnOk, IfErr, ℕ, List};
 ghost use Rattle.rrs_memory.specs.AccessLists.{Makes};
 ghost use Rattle.rrs_memory.specs.Loading.{Loaded, byte_writes};
-ghost use Rattle.rrs_elf.specs.Headers.{e_phnum, p_vaddr};
+ghost use Rattle.rrs_elf.specs.Headers.{e_phnum, segment_start};
 ghost use Rattle.rrs_elf.specs.ProgramHeaders.{IsProgramHeader};
 ghost use Rattle.rrs_elf.specs.Loading.{segment_byte, segment_bytes, loaded_size, Stands, segment_writes, StopsAt};
 
 use crate::accepting::Executable;
 use crate::numbers::read_byte;
-use crate::program_headers::{ProgramHeader, read_program_header};
+use crate::program_headers::{Addresses, ProgramHeader, read_program_header};
 use rrs_memory::{MemAccessSize, Memory};
 
 /// Why a load ended before the last segment: the memory refused the byte at this address. What was
@@ -44,29 +44,37 @@ fn byte_of(file: &[u8], segment: &ProgramHeader, place: u32) -> u8
     }
 }
 
-/// Loads one segment, byte by byte, if it is one that is loaded.
-fn load_segment<M: Memory>(file: &[u8], index: u16, memory: &mut M) -> Result<(), Refused>
-    requires { (k : ℕ) → k < loaded_size file.now index → p_vaddr file.now index + k < 2 ^ 32 }
+/// Loads one segment at one of its addresses, byte by byte, if it is one that is loaded.
+fn load_segment<M: Memory>(
+    file: &[u8],
+    addresses: Addresses,
+    index: u16,
+    memory: &mut M,
+) -> Result<(), Refused>
+    requires { (k : ℕ) → k < loaded_size file.now index
+        → segment_start addresses file.now index + k < 2 ^ 32 }
     ensures loaded { OnOk result (Loaded (M.bytes memory.old) (M.bytes memory.new)
-        (M.writable memory.old) (p_vaddr file.now index)
+        (M.writable memory.old) (segment_start addresses file.now index)
         (segment_bytes file.now index (loaded_size file.now index))) }
     ensures made { OnOk result (Makes M.reads M.writes (byte_writes (M.writable memory.old)
-        (p_vaddr file.now index) (segment_bytes file.now index (loaded_size file.now index)))
-        memory.old memory.new) }
+        (segment_start addresses file.now index)
+        (segment_bytes file.now index (loaded_size file.now index))) memory.old memory.new) }
     ensures stopped { IfErr result (λ refused. (k : ℕ) × (k < loaded_size file.now index)
-        × (refused.address ≡ p_vaddr file.now index + k)
+        × (refused.address ≡ segment_start addresses file.now index + k)
         × (M.writable memory.old refused.address ≡ false)
         × Loaded (M.bytes memory.old) (M.bytes memory.new) (M.writable memory.old)
-        (p_vaddr file.now index) (segment_bytes file.now index k)
-        × Makes M.reads M.writes (byte_writes (M.writable memory.old) (p_vaddr file.now index)
-        (segment_bytes file.now index (suc k))) memory.old memory.new) }
+        (segment_start addresses file.now index) (segment_bytes file.now index k)
+        × Makes M.reads M.writes (byte_writes (M.writable memory.old)
+        (segment_start addresses file.now index) (segment_bytes file.now index (suc k)))
+        memory.old memory.new) }
     ensures writable_kept { M.writable memory.new ≡ M.writable memory.old }
     ensures layout_kept { M.layout memory.new ≡ M.layout memory.old }
 {
     let segment = read_program_header(file, index);
+    let start = segment.start(addresses);
     for place in 0..size_to_load(&segment) {
         let byte = byte_of(file, &segment, place);
-        let address = segment.address + place;
+        let address = start + place;
         if !memory.write_mem(address, MemAccessSize::Byte, u32::from(byte)) {
             return Err(Refused { address });
         }
@@ -75,25 +83,28 @@ fn load_segment<M: Memory>(file: &[u8], index: u16, memory: &mut M) -> Result<()
 }
 
 impl Executable<'_> {
-    /// Loads the executable into a memory: the bytes of each loaded segment, from its first address
-    /// on, and then zeros up to its size in memory. Segments are loaded in their order, byte by
-    /// byte, each byte by one write, and nothing else is read or written.
+    /// Loads the executable into a memory: the bytes of each loaded segment, from the first of the
+    /// addresses that were asked for on, and then zeros up to its size in memory. Segments are
+    /// loaded in their order, byte by byte, each byte by one write, and nothing else is read or
+    /// written.
     ///
     /// Where the memory refuses an address, the load ends there. The bytes before it, in this
     /// order, are written then, and all others are as before.
     pub fn load<M: Memory>(&self, memory: &mut M) -> Result<(), Refused>
-        ensures loaded { OnOk result (Stands self.now.file.now (M.bytes memory.old)
-            (M.bytes memory.new) (M.writable memory.old) (e_phnum self.now.file.now) 0) }
+        ensures loaded { OnOk result (Stands self.now.addresses self.now.file.now
+            (M.bytes memory.old) (M.bytes memory.new) (M.writable memory.old)
+            (e_phnum self.now.file.now) 0) }
         ensures accesses { OnOk result (Makes M.reads M.writes (segment_writes
-            (M.writable memory.old) self.now.file.now (e_phnum self.now.file.now))
-            memory.old memory.new) }
+            self.now.addresses (M.writable memory.old) self.now.file.now
+            (e_phnum self.now.file.now)) memory.old memory.new) }
         ensures refused { IfErr result (λ refused. StopsAt M.reads M.writes M.bytes
-            (M.writable memory.old) self.now.file.now memory.old memory.new refused.address) }
+            (M.writable memory.old) self.now.addresses self.now.file.now memory.old memory.new
+            refused.address) }
         ensures writable_kept { M.writable memory.new ≡ M.writable memory.old }
         ensures layout_kept { M.layout memory.new ≡ M.layout memory.old }
     {
         for index in 0..self.program_header_count() {
-            load_segment(self.file, index, memory)?;
+            load_segment(self.file, self.addresses, index, memory)?;
         }
         Ok(())
     }

@@ -1,10 +1,20 @@
 //! Program headers.
 
-ghost use Rattle.std.specs.Prelude.{◌≡◌, ◌↔◌, ◌+◌, ◌/◌, ◌%◌, ◌^◌, ◌<◌, IsTrue};
+ghost use Rattle.std.specs.Prelude.{◌≡◌, ◌↔◌, ◌+◌, ◌/◌, ◌%◌, ◌^◌, ◌<◌, ℕ, List, IsTrue};
 ghost use Rattle.rrs_elf.specs.ProgramHeaders.{IsProgramHeader};
-ghost use Rattle.rrs_elf.specs.Headers.{program_header_start, e_phnum};
+ghost use Rattle.rrs_elf.specs.Headers.{program_header_start, e_phnum, segment_start};
 
 use crate::numbers::{read_half, read_word};
+
+/// Which of its two addresses each segment is loaded at.
+#[derive(Debug, PartialEq, Clone, Copy)]
+pub enum Addresses {
+    /// The virtual one (`p_vaddr`), as the segments of a process.
+    Virtual,
+    /// The physical one (`p_paddr`), as those of firmware, whose start-up code may copy them to
+    /// their virtual ones.
+    Physical,
+}
 
 /// A program header: what one segment of the file is. The names of its fields in the ELF
 /// specification are in brackets.
@@ -14,9 +24,9 @@ pub struct ProgramHeader {
     pub kind: u32,
     /// Where its bytes begin in the file (`p_offset`).
     pub offset: u32,
-    /// Its first address (`p_vaddr`).
+    /// Its first virtual address (`p_vaddr`).
     pub address: u32,
-    /// Its physical address (`p_paddr`), which nothing here uses.
+    /// Its first physical address (`p_paddr`).
     pub physical_address: u32,
     /// How many bytes it has in the file (`p_filesz`).
     pub file_size: u32,
@@ -29,7 +39,18 @@ pub struct ProgramHeader {
 }
 
 impl ProgramHeader {
-    /// The address behind its last one, at most 2^32 in a file that is accepted.
+    /// The first of these addresses.
+    pub fn start(&self, addresses: Addresses) -> u32
+        ensures { (file : List ℕ) (i : ℕ) → IsProgramHeader file i self.now
+            → result ≡ segment_start addresses file i }
+    {
+        match addresses {
+            Addresses::Virtual => self.address,
+            Addresses::Physical => self.physical_address,
+        }
+    }
+
+    /// The virtual address behind its last one.
     pub fn end(&self) -> u64
         ensures { result ≡ self.now.address + self.now.memory_size }
     {

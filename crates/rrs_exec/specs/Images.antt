@@ -2,7 +2,8 @@
 -- "Program Loading").
 use Rattle.std.specs.Prelude.{◌≡◌, ◌==◌, ◌≢◌, ◌⊎◌, ℕ, zero, suc, ◌+◌, ◌-◌, ◌/◌, ◌%◌, ◌^◌, ◌<◌, ◌≤◌, Bool, true, false, ◌&&◌, ◌||◌, nat_le, nat_lt, min, max, if◌then◌else◌, List, [], ◌∷◌, ◌++◌, length, slice_index, Option, Some, None}
 use Rattle.rrs_memory.specs.Bytes.{ByteMap}
-use Rattle.rrs_elf.specs.Headers.{e_entry, e_phoff, e_phnum, p_type, p_offset, p_vaddr, p_filesz, p_memsz, p_flags}
+use Rattle.rrs_elf.specs.Headers.{e_entry, e_phoff, e_phnum, p_type, p_offset, p_vaddr, p_filesz, p_memsz, p_flags, segment_start}
+use Rattle.rrs_elf.specs.declared.program_headers.Addresses.{Addresses}
 use Rattle.rrs_elf.specs.Executables.{PT_LOAD}
 use Rattle.rrs_elf.specs.Loading.{loaded_size, segment_byte}
 use Rattle.rrs_exec.specs.declared.marks.PageRange.{PageRange}
@@ -159,33 +160,37 @@ pub record IsImage (file : List ℕ) (arguments variables : List (List ℕ)) (wa
   -- the marks of its pages
   pub marked : IsMarkedBy (ranges_of file image.layout) (image.layout.end / 4096) image.marks.items
 
--- A memory is writable where the segments and so many bytes from sp on lie.
-pub record IsFillable (file : List ℕ) (sp size : ℕ) (writable : ℕ → Bool) : Type 0 where
+-- A memory is writable where the segments, at these of their addresses, and so many bytes from sp
+-- on lie.
+pub record IsFillable (at : Addresses) (file : List ℕ) (sp size : ℕ) (writable : ℕ → Bool)
+    : Type 0 where
   pub segments : (i j : ℕ) → i < e_phnum file → j < loaded_size file i
-      → writable (p_vaddr file i + j) ≡ true
+      → writable (segment_start at file i + j) ≡ true
   pub stack : (k : ℕ) → k < size → writable (sp + k) ≡ true
   pub ends : sp + size < 2 ^ 32
 
 -- an address of the segments, or one of so many from sp on
-abbrev pub IsToFill : List ℕ → ℕ → ℕ → ℕ → Type 0
-IsToFill file sp size a =
-    ((i j : ℕ) × (i < e_phnum file) × (j < loaded_size file i) × (a ≡ p_vaddr file i + j))
+abbrev pub IsToFill : Addresses → List ℕ → ℕ → ℕ → ℕ → Type 0
+IsToFill at file sp size a =
+    ((i j : ℕ) × (i < e_phnum file) × (j < loaded_size file i)
+    × (a ≡ segment_start at file i + j))
     ⊎ (sp ≤ a) × (a < sp + size)
 
 -- Why a memory is not filled: it refuses such an address, or the stack passes the last address,
 -- for which sp is told; or the host has no memory.
-abbrev pub IsRefusal : List ℕ → ℕ → ℕ → (ℕ → Bool) → ImageError → Type 0
-IsRefusal file sp size writable (Refused a) =
-    (writable a ≡ false) × IsToFill file sp size a ⊎ (a ≡ sp) × (2 ^ 32 < sp + size)
-IsRefusal file sp size writable OutOfMemory = Unit {0}
-IsRefusal file sp size writable _ = ⊥
+abbrev pub IsRefusal : Addresses → List ℕ → ℕ → ℕ → (ℕ → Bool) → ImageError → Type 0
+IsRefusal at file sp size writable (Refused a) =
+    (writable a ≡ false) × IsToFill at file sp size a ⊎ (a ≡ sp) × (2 ^ 32 < sp + size)
+IsRefusal at file sp size writable OutOfMemory = Unit {0}
+IsRefusal at file sp size writable _ = ⊥
 
--- The segments of a file stand in memory, each with the bytes of the file and then zeros, and the
--- bytes of a stack from sp on; all other bytes are as before.
-pub record Filled (file : List ℕ) (sp : ℕ) (stack : List ℕ) (old new : ByteMap) : Type 0 where
+-- The segments of a file stand in memory at these of their addresses, each with the bytes of the
+-- file and then zeros, and the bytes of a stack from sp on; all other bytes are as before.
+pub record Filled (at : Addresses) (file : List ℕ) (sp : ℕ) (stack : List ℕ) (old new : ByteMap)
+    : Type 0 where
   pub segments : (i j : ℕ) → i < e_phnum file → j < loaded_size file i
-      → new (p_vaddr file i + j) ≡ Some (segment_byte file i j)
+      → new (segment_start at file i + j) ≡ Some (segment_byte file i j)
   pub stack_there : (i : ℕ) → i < length stack → new (sp + i) ≡ Some (slice_index stack i)
   pub others : (a : ℕ)
-      → ((i j : ℕ) → i < e_phnum file → j < loaded_size file i → a ≢ p_vaddr file i + j)
+      → ((i j : ℕ) → i < e_phnum file → j < loaded_size file i → a ≢ segment_start at file i + j)
       → (a < sp) ⊎ (sp + length stack ≤ a) → new a ≡ old a

@@ -4,6 +4,7 @@ use Rattle.rrs_lib.specs.Bytes.{ByteMap}
 use Rattle.rrs_lib.specs.AccessLists.{Access}
 use Rattle.rrs_lib.specs.Machine.{State}
 use Rattle.rrs_elf.specs.Executables.{IsExecutable}
+use Rattle.rrs_elf.specs.declared.program_headers.Addresses.TheVariants.{Virtual}
 use Rattle.rrs_exec.specs.declared.image.Image.{Image}
 use Rattle.rrs_exec.specs.Protection.{bytes_under, writable_under}
 use Rattle.rrs_exec.specs.Images.{IsImage, Filled}
@@ -34,14 +35,14 @@ heap_of image = record {
 }
 
 -- A process is loaded and has made no step: a file is an executable, an image is one of it, and its
--- segments and its stack stand in a memory that is writable from the first address to the end, and
--- that is 0 elsewhere.
+-- segments, at their virtual addresses, and its stack stand in a memory that is writable from the
+-- first address to the end, and that is 0 elsewhere.
 pub record IsLoaded (file : List ℕ) (arguments variables : List (List ℕ)) (wanted : ℕ)
     (image : Image) (bytes : ByteMap) (writable : ℕ → Bool) : Type 0 where
   pub executable : IsExecutable file
   pub is_image : IsImage file arguments variables wanted image
   pub long : writable ≡ lies_between image.layout.base image.layout.end
-  pub filled : Filled file image.stack_pointer image.stack.items
+  pub filled : Filled Virtual file image.stack_pointer image.stack.items
       (zeros_between image.layout.base image.layout.end) bytes
 
 -- By a chain of an environment of type E, from an image, in a memory of these bytes under its

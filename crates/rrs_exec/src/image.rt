@@ -2,7 +2,7 @@
 
 ghost use Rattle.std.specs.Prelude.{◌≡◌, ◌≤◌, ◌<◌, ◌+◌, ◌%◌, ◌++◌, ◌∷◌, [], ℕ, List, map, string_bytes, IsOk, IfOk, IfErr, OnOk, MatchOption, None, Err, length};
 ghost use Rattle.rrs_fast.specs.Serving.{MakesSome};
-ghost use Rattle.rrs_elf.specs.Headers.{e_phnum, p_vaddr};
+ghost use Rattle.rrs_elf.specs.Headers.{e_phnum, segment_start};
 ghost use Rattle.rrs_elf.specs.Loading.{loaded_size};
 ghost use Rattle.rrs_elf.specs.ProgramHeaders.{IsProgramHeader};
 ghost use Rattle.rrs_exec.specs.InitialStack.{stack_bytes, stack_pointer};
@@ -344,17 +344,18 @@ pub fn fill<M: Memory>(
 ) -> Result<(), ImageError>
     requires { (i j : ℕ) → i < e_phnum executable.now.file.now
         → j < loaded_size executable.now.file.now i
-        → p_vaddr executable.now.file.now i + j < sp }
-    ensures filled { OnOk result (Filled executable.now.file.now sp stack.now
-        (M.bytes memory.old) (M.bytes memory.new)) }
+        → segment_start executable.now.addresses executable.now.file.now i + j < sp }
+    ensures filled { OnOk result (Filled executable.now.addresses executable.now.file.now
+        sp stack.now (M.bytes memory.old) (M.bytes memory.new)) }
     ensures made { OnOk result (MakesSome M.reads M.writes (λ accesses. Unit {0})
         memory.old memory.new) }
     ensures writable_kept { M.writable memory.new ≡ M.writable memory.old }
     ensures layout_kept { M.layout memory.new ≡ M.layout memory.old }
-    ensures fillable { IsFillable executable.now.file.now sp (length stack.now)
-        (M.writable memory.old) → IfErr result (λ error. error ≡ ImageError.OutOfMemory) }
-    ensures refused { IfErr result
-        (IsRefusal executable.now.file.now sp (length stack.now) (M.writable memory.old)) }
+    ensures fillable { IsFillable executable.now.addresses executable.now.file.now
+        sp (length stack.now) (M.writable memory.old)
+        → IfErr result (λ error. error ≡ ImageError.OutOfMemory) }
+    ensures refused { IfErr result (IsRefusal executable.now.addresses executable.now.file.now
+        sp (length stack.now) (M.writable memory.old)) }
 {
     if let Err(refused) = executable.load(memory) {
         return Err(ImageError::Refused(refused.address));

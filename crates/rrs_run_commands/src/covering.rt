@@ -10,6 +10,7 @@ use crate::refusal::{FileFault, Refusal, named, no_image, out_of_memory};
 use crate::requests::Request;
 use crate::variables::variables_of;
 use rrs_board::Board;
+use rrs_elf::Addresses;
 use rrs_exec::Progress;
 use rrs_fast::Ending;
 use rrs_linux::Linux;
@@ -96,7 +97,7 @@ pub fn cover<'a, H: Files + Eprint + AllocGlobal, R: Read, W: Write, E: Write, P
 ) -> Result<Ending, Refusal<'a>> {
     check_written(rt, request)?;
     let file = read_program(rt, request.path())?;
-    let code = code_of(rt.alloc(), request.path(), &file)?;
+    let code = code_of(rt.alloc(), request.path(), &file, Addresses::Virtual)?;
     cover_code(rt, request, &file, &code, environment, errors, progress)
 }
 
@@ -159,12 +160,12 @@ pub fn cover_firmware<'a, H: Files + Eprint + AllocGlobal, R: Read, W: Write, E:
     match request.symbols {
         Some(path) => {
             let names = read_program(rt, path)?;
-            let code = code_of(rt.alloc(), path, &names)?;
+            let code = code_of(rt.alloc(), path, &names, Addresses::Virtual)?;
             cover_loaded(rt, board, request, &code, input, output, errors)
         }
         None if request.is_raw => Err(Refusal::File(request.path(), FileFault::HasNoSymbols)),
         None => {
-            let code = code_of(rt.alloc(), request.path(), &file)?;
+            let code = code_of(rt.alloc(), request.path(), &file, Addresses::Physical)?;
             cover_loaded(rt, board, request, &code, input, output, errors)
         }
     }

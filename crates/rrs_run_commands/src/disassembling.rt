@@ -2,13 +2,13 @@
 
 use crate::files::{buffered, read_program, unwritten};
 use crate::refusal::{Refusal, no_executable, out_of_memory};
-use rrs_elf::Executable;
+use rrs_elf::{Addresses, Executable};
 use rrs_reports::{Code, write_disassembly};
 use std::alloc::{AllocError, Global};
 use std::io::{self, Write};
 use std::rt::Files;
 
-/// The code of an executable.
+/// The code of an executable whose segments are loaded at these of their addresses.
 ///
 /// # Errors
 ///
@@ -18,8 +18,9 @@ pub(crate) fn code_of<'a, 'f>(
     alloc: Global,
     path: &'a str,
     file: &'f [u8],
+    addresses: Addresses,
 ) -> Result<Code<'f>, Refusal<'a>> {
-    let program = match Executable::parse(file) {
+    let program = match Executable::parse_at(file, addresses) {
         Ok(program) => program,
         Err(error) => return Err(no_executable(path, file, error)),
     };
@@ -58,7 +59,7 @@ pub fn disassemble_file<'a, H: Files + AllocGlobal, O: Write>(
     out: &mut O,
 ) -> Result<(), Refusal<'a>> {
     let file = read_program(rt, path)?;
-    let code = code_of(rt.alloc(), path, &file)?;
+    let code = code_of(rt.alloc(), path, &file, Addresses::Virtual)?;
     let mut out = buffered(rt.alloc(), out)?;
     let written = write_disassembly(&mut out, path, &code);
     flushed(written, &mut out)

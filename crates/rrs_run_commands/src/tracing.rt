@@ -10,7 +10,7 @@ use crate::requests::Request;
 use crate::variables::variables_of;
 use crate::words::number_of;
 use rrs_board::Board;
-use rrs_elf::{Executable, Symbols};
+use rrs_elf::{Addresses, Executable, Symbols};
 use rrs_exec::Progress;
 use rrs_fast::Ending;
 use rrs_linux::Linux;
@@ -36,7 +36,7 @@ fn value_of(symbols: &Symbols<'_>, name: &[u8]) -> Option<u32> {
 }
 
 /// The address from which on lines are written, if a word asks for one: a number, or the name of a
-/// symbol of the file of a path.
+/// symbol of the file of a path, whose segments are loaded at these of their addresses.
 ///
 /// # Errors
 ///
@@ -45,6 +45,7 @@ fn value_of(symbols: &Symbols<'_>, name: &[u8]) -> Option<u32> {
 fn start_of<'a>(
     path: &'a str,
     file: &[u8],
+    addresses: Addresses,
     request: Request<'a>,
 ) -> Result<Option<u32>, Refusal<'a>> {
     let Some(word) = request.from else {
@@ -56,7 +57,7 @@ fn start_of<'a>(
             Err(_) => Err(Refusal::NoAddress(word)),
         };
     }
-    let program = match Executable::parse(file) {
+    let program = match Executable::parse_at(file, addresses) {
         Ok(program) => program,
         Err(error) => return Err(no_executable(path, file, error)),
     };
@@ -136,7 +137,7 @@ pub fn trace<'a, H: Files + Eprint + AllocGlobal, R: Read, W: Write, E: Write, P
 ) -> Result<Ending, Refusal<'a>> {
     check_written(rt, request)?;
     let file = read_program(rt, request.path())?;
-    let from = start_of(request.path(), &file, request)?;
+    let from = start_of(request.path(), &file, Addresses::Virtual, request)?;
     match request.output {
         Some(path) => {
             let mut log = created(rt, path)?;
@@ -201,11 +202,11 @@ pub fn trace_firmware<'a, H: Files + Eprint + AllocGlobal, R: Read, W: Write, E:
     check_written(rt, request)?;
     let file = read_program(rt, request.path())?;
     let from = match request.symbols {
-        Some(path) => start_of(path, &read_program(rt, path)?, request)?,
+        Some(path) => start_of(path, &read_program(rt, path)?, Addresses::Virtual, request)?,
         None if request.is_raw && names_symbol(request) => {
             return Err(Refusal::File(request.path(), FileFault::HasNoSymbols));
         }
-        None => start_of(request.path(), &file, request)?,
+        None => start_of(request.path(), &file, Addresses::Physical, request)?,
     };
     let board = board_with(rt, request, &file)?;
     match request.output {

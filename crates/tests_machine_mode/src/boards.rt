@@ -6,7 +6,9 @@ use rrs_board::{
     Board, BoardEnd, BoardError, BoardEvent, PlainRuns, TerminalError, run_at_terminal,
 };
 use rrs_board_gdb::{BoardSession, serve};
+use rrs_elf::ElfError;
 use rrs_gdb::{Link, LinkError, encode};
+use rrs_lib::{MemAccessSize, Memory};
 use std::alloc::{AllocError, Global};
 use std::test::Fail;
 
@@ -249,73 +251,132 @@ fn output_is_sent_in_parts(rt: HostRuntime) -> Result<(), Fail> {
     Ok(())
 }
 
-/// An executable whose one segment, at an address, ends the program with status 7.
-fn executable_at(alloc: Global, address: u32) -> Result<Vec<u8>, AllocError> {
+/// A segment of an executable: its virtual and its physical address.
+type Segment = (u32, u32);
+
+/// The file that each of these segments has the bytes of: they end the program with status 7.
+const CODE: [u32; 4] = [
+    0x0010_03b7, // lui x7, 0x100
+    0x0007_3437, // lui x8, 0x73
+    0x3334_0413, // addi x8, x8, 0x333
+    0x0083_a023, // sw x8, 0(x7)
+];
+
+/// An executable with two segments of 16 bytes, each with the code, which starts at the virtual
+/// address of the first.
+fn executable_with(alloc: Global, segments: [Segment; 2]) -> Result<Vec<u8>, AllocError> {
     let mut file = b"\x7fELF\x01\x01\x01\0\0\0\0\0\0\0\0\0\x02\0\xf3\0".to_vec(alloc)?;
     for word in [
         1, // e_version
-        address, // e_entry
+        segments[0].0, // e_entry
         52, // e_phoff
         0, // e_shoff
         0, // e_flags
         0x0020_0034, // e_ehsize, e_phentsize
-        0x0028_0001, // e_phnum, e_shentsize
+        0x0028_0002, // e_phnum, e_shentsize
         0, // e_shnum, e_shstrndx
-        1, // p_type
-        84, // p_offset
-        address, // p_vaddr
-        address, // p_paddr
-        16, // p_filesz
-        16, // p_memsz
-        5, // p_flags
-        4, // p_align
-        0x0010_03b7, // lui x7, 0x100
-        0x0007_3437, // lui x8, 0x73
-        0x3334_0413, // addi x8, x8, 0x333
-        0x0083_a023, // sw x8, 0(x7)
     ] {
+        file.extend_from_slice(&u32::to_le_bytes(word))?;
+    }
+    for (address, physical_address) in segments {
+        for word in [
+            1, // p_type
+            116, // p_offset
+            address, // p_vaddr
+            physical_address, // p_paddr
+            16, // p_filesz
+            16, // p_memsz
+            5, // p_flags
+            4, // p_align
+        ] {
+            file.extend_from_slice(&u32::to_le_bytes(word))?;
+        }
+    }
+    for word in CODE {
         file.extend_from_slice(&u32::to_le_bytes(word))?;
     }
     Ok(file)
 }
 
-/// How such an executable ends on a board with 64 bytes of RAM.
-fn loaded_end(alloc: Global, address: u32) -> Result<Result<BoardEnd, BoardError>, AllocError> {
-    let file = executable_at(alloc, address)?;
+/// How such an executable ends on a board with 64 bytes of RAM, and the words at 0x80000010 and
+/// 0x80000020 before.
+fn loaded_end(
+    alloc: Global,
+    segments: [Segment; 2],
+) -> Result<Result<(BoardEnd, [Option<u32>; 2]), BoardError>, AllocError> {
+    let file = executable_with(alloc, segments)?;
     Ok(match Board::load(alloc, &file, 16) {
-        Ok(mut board) => Ok(board.run(10)),
+        Ok(mut board) => {
+            let words = [
+                board.memory.read_mem(0x8000_0010, MemAccessSize::Word),
+                board.memory.read_mem(0x8000_0020, MemAccessSize::Word),
+            ];
+            Ok((board.run(10), words))
+        }
         Err(error) => Err(error),
     })
+}
+
+/// How one ends that is loaded, by whether the words are those of code.
+fn ended(first: bool, second: bool) -> Result<(BoardEnd, [Option<u32>; 2]), BoardError> {
+    let end = BoardEnd {
+        steps: 4,
+        event: Some(BoardEvent::Finished(7)),
+    };
+    let word_of = |is_code| Some(if is_code { CODE[0] } else { 0 });
+    Ok((end, [word_of(first), word_of(second)]))
 }
 
 #[test]
 fn a_segment_is_in_ram_or_refused(rt: HostRuntime) -> Result<(), Fail> {
     let alloc = rt.alloc();
-    let mut ends = Vec::new(alloc);
-    for address in [
-        0x8000_0000,
-        0x8000_0030,
-        0x8000_0034,
-        0x7fff_fffc,
-        0x1000_0000,
+    let first = (0x8000_0000, 0x8000_0000);
+    for (address, wanted) in [
+        (0x8000_0010, ended(true, false)),
+        (0x8000_0030, ended(false, false)),
+        (0x8000_0034, Err(BoardError::Refused(0x8000_0040))),
+        (0x7fff_fff0, Err(BoardError::Refused(0x7fff_fff0))),
+        (0x1000_0000, Err(BoardError::Refused(0x1000_0000))),
     ] {
-        ends.push(loaded_end(alloc, address)?)?;
+        // where its virtual address is makes no difference
+        for other in [address, 0x2000_0000] {
+            let end = loaded_end(alloc, [first, (other, address)])?;
+            assert_eq!(rt; end, wanted, "{other:#x} at {address:#x}");
+        }
     }
-    let end = BoardEnd {
-        steps: 4,
-        event: Some(BoardEvent::Finished(7)),
-    };
-    assert_eq!(rt;
-        ends.as_slice(),
-        [
-            Ok(end),
-            Ok(end),
-            Err(BoardError::Refused(0x8000_0040)),
-            Err(BoardError::Refused(0x7fff_fffc)),
-            Err(BoardError::Refused(0x1000_0000)),
-        ]
-        .as_slice()
-    );
+    Ok(())
+}
+
+#[test]
+fn segments_lie_apart_at_their_physical_addresses(rt: HostRuntime) -> Result<(), Fail> {
+    let alloc = rt.alloc();
+    let first = (0x8000_0000, 0x8000_0000);
+    for (second, wanted) in [
+        // overlays share their virtual addresses
+        ((0x8000_0000, 0x8000_0020), ended(false, true)),
+        ((0xffff_fff4, 0x8000_0020), ended(false, true)),
+        (
+            (0x8000_0020, 0x8000_000c),
+            Err(BoardError::Elf(ElfError::SegmentsOverlap(0, 1))),
+        ),
+        (
+            (0x8000_0020, 0xffff_fff4),
+            Err(BoardError::Elf(ElfError::SegmentPastLastAddress(1))),
+        ),
+    ] {
+        assert_eq!(rt; loaded_end(alloc, [first, second])?, wanted, "{second:?}");
+    }
+    Ok(())
+}
+
+#[test]
+fn the_entry_is_a_virtual_address(rt: HostRuntime) -> Result<(), Fail> {
+    // the code of the first is where the second says, and the hart starts there
+    let end = loaded_end(
+        rt.alloc(),
+        [(0x8000_0020, 0x8000_0000), (0x8000_0000, 0x8000_0020)],
+    )?;
+    assert_eq!(rt; end, ended(false, true));
     Ok(())
 }
 

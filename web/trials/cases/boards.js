@@ -121,6 +121,30 @@ async function sleeps(report, page, kit, clock, board) {
   report.same("behind it", ["", "It was powered off, with status 0.", false, false], stands(board));
 }
 
+/* An executable of one segment, which is these bytes: they stand in RAM, and their virtual address
+ * is nowhere. The hart starts in the first, by its virtual address. */
+function executableOf(page, bytes) {
+  const file = new Uint8Array(148 + bytes.length);
+  const segment = (virtual, physical) => [1, 148, virtual, physical, bytes.length, bytes.length, 5, 4];
+  const header = [0x464c457f, 0x00010101, 0, 0, 0x00f30002, 1, page.RAM_START, 52, 0, 0, 0x00200034,
+    0x00280003, 0, ...segment(page.RAM_START, page.RAM_START),
+    ...segment(0x20000000, page.RAM_START + 0x1000),
+    ...segment(page.RAM_START, page.RAM_START + 0x2000)];
+  const view = new DataView(file.buffer);
+  header.forEach((word, index) => view.setUint32(4 * index, word, true));
+  file.set(bytes, 148);
+  return file;
+}
+
+function loads(report, page, kit, board) {
+  const { bytes } = kit.assemble(ECHO, page.RAM_START);
+  report.same("an executable", "", board.open("elf", executableOf(page, bytes)));
+  const there = (place) => Buffer.compare(
+    Buffer.from(board.kit.bytes.subarray(place, place + bytes.length)), Buffer.from(bytes)) === 0;
+  report.same("its segments, at their physical addresses", [true, true, true, 0x80000000],
+    [...[0, 0x1000, 0x2000].map(there), board.kit.pc]);
+}
+
 function refuses(report, page, board) {
   const long = new Uint8Array(page.RAM_BYTES - page.TREE_ROOM + 1);
   report.same("an image that is too long",
@@ -184,6 +208,7 @@ async function tryBoards(report, page, kit, clock) {
   await waits(report, page, kit, clock, board);
   await sleeps(report, page, kit, clock, board);
   refuses(report, page, board);
+  loads(report, page, kit, board);
   trees(report, page);
   screens(report, page);
   keys(report, page);

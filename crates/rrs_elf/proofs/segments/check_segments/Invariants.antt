@@ -4,4 +4,4 @@ use Rattle.rrs_elf.proofs.segments.check_segments.Given as goal
 
 -- those before pass
 abbrev pub invariant-loop-index : goal.invariant-loop-index
-invariant-loop-index l = first_refusal (checks_below (segment_checks l.file) l.index) ≡ Ok tt
+invariant-loop-index l = first_refusal (checks_below (segment_checks l.addresses l.file) l.index) ≡ Ok tt

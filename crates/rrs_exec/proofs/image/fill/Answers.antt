@@ -7,7 +7,7 @@ use Rattle.rrs_exec.proofs.image.fill.Goals as goal
 pub returns-in-Ok-clause-filled : goal.returns-in-Ok-clause-filled
 returns-in-Ok-clause-filled g c =
     let read = c.in-Ok.ensures.loads in
-    filled_by c.args.executable.now.file.now c.args.sp c.args.stack.now read.input _ _ _ _ _ _ c.in_default.ensures.loaded read.loaded read.answered.0 read.answered.1 c.requires
+    filled_by c.args.executable.now.addresses c.args.executable.now.file.now c.args.sp c.args.stack.now read.input _ _ _ _ _ _ c.in_default.ensures.loaded read.loaded read.answered.0 read.answered.1 c.requires
 
 pub returns-in-Ok-clause-made : goal.returns-in-Ok-clause-made
 returns-in-Ok-clause-made g c = record {

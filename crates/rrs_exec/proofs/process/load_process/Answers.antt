@@ -6,6 +6,8 @@ use Rattle.rrs_memory.specs.Bytes.{ByteMap}
 use Rattle.rrs_elf.specs.Executables.{IsExecutable, PT_LOAD}
 use Rattle.rrs_elf.specs.Headers.{e_entry, p_memsz, p_type, p_vaddr}
 use Rattle.rrs_elf.specs.Loading.{loaded_size}
+use Rattle.rrs_elf.specs.declared.program_headers.Addresses.{Addresses}
+use Rattle.rrs_elf.specs.declared.program_headers.Addresses.TheVariants.{Virtual}
 use Rattle.rrs_exec.specs.InitialStack.{stack_bytes}
 use Rattle.rrs_elf.proofs.Accepted.{accepted_to}
 use Rattle.rrs_exec.specs.declared.image.Image.{Image}
@@ -20,12 +22,13 @@ loaded-whole : (file : List ℕ) (i : ℕ) → p_type file i ≡ PT_LOAD → loa
 loaded-whole file i loaded = rw loaded refl
 
 -- the same file, stack and bytes before, by other names
-renamed : (file file' : List ℕ) (sp : ℕ) (stack stack' : List ℕ) (old old' new : ByteMap)
-    → file ≡ file' → stack ≡ stack' → old ≡ old' → Filled file sp stack old new → Filled file' sp stack' old' new
-renamed file file' sp stack stack' old old' new f s o filled =
-    subst (λ file. Filled file sp stack' old' new) f
-    (subst (λ stack. Filled file sp stack old' new) s
-    (subst (λ old. Filled file sp stack old new) o filled))
+renamed : (at : Addresses) (file file' : List ℕ) (sp : ℕ) (stack stack' : List ℕ) (old old' new : ByteMap)
+    → at ≡ Virtual → file ≡ file' → stack ≡ stack' → old ≡ old' → Filled at file sp stack old new → Filled Virtual file' sp stack' old' new
+renamed at file file' sp stack stack' old old' new a f s o filled =
+    subst (λ file. Filled Virtual file sp stack' old' new) f
+    (subst (λ stack. Filled Virtual file sp stack old' new) s
+    (subst (λ old. Filled Virtual file sp stack old new) o
+    (subst (λ at. Filled at file sp stack old new) a filled)))
 
 -- an address of the memory is writable
 lies : (base end a : ℕ) → base ≤ a → a < end → lies_between base end a ≡ true
@@ -62,7 +65,7 @@ pub fill-requires : goal.fill-requires
 fill-requires c =
     let im = c.in_ok-image.ensures.image in
     λ i j numbered within.
-    omega (arith, (im.program i j numbered within).1, im.laid_out.behind, im.laid_out.heap, im.laid_out.gap, im.on_stack)
+    rw c.in-Ok.ensures.placed (omega (arith, (im.program i j numbered within).1, im.laid_out.behind, im.laid_out.heap, im.laid_out.gap, im.on_stack))
 
 pub returns-clause-loaded : goal.returns-clause-loaded
 returns-clause-loaded c =
@@ -73,7 +76,7 @@ returns-clause-loaded c =
       executable = search rules;
       is_image = subst (λ file. IsImage file (map string_bytes c.args.arguments.now) (map string_bytes c.args.variables.now) c.args.wanted image) same im;
       long = c.fill.ensures.writable_kept ∙ c.in-Ok-new.ensures.writable;
-      filled = renamed _ _ _ _ _ _ _ _ same c.deref.ensures.value c.in-Ok-new.ensures.zeros c.in_ok-fill.ensures.filled;
+      filled = renamed _ _ _ _ _ _ _ _ _ c.in-Ok.ensures.placed same c.deref.ensures.value c.in-Ok-new.ensures.zeros c.in_ok-fill.ensures.filled;
     }
 
 -- a file that is no executable is refused for what it is
@@ -83,17 +86,17 @@ returns-in-Err-clause-refused c = λ refusal is. cc (is, c.in-Err.ensures.refuse
 pub returns-in_err-image-clause-refused : goal.returns-in_err-image-clause-refused
 returns-in_err-image-clause-refused c = λ refusal is.
     let executable : IsExecutable c.args.file.now = search rules in
-    absurd (cc (is, accepted_to c.args.file.now executable))
+    absurd (cc (is, accepted_to Virtual c.args.file.now executable))
 
 pub returns-in-Err-new-clause-refused : goal.returns-in-Err-new-clause-refused
 returns-in-Err-new-clause-refused c = λ refusal is.
     let executable : IsExecutable c.args.file.now = search rules in
-    absurd (cc (is, accepted_to c.args.file.now executable))
+    absurd (cc (is, accepted_to Virtual c.args.file.now executable))
 
 pub returns-in_err-fill-clause-refused : goal.returns-in_err-fill-clause-refused
 returns-in_err-fill-clause-refused c = λ refusal is.
     let executable : IsExecutable c.args.file.now = search rules in
-    absurd (cc (is, accepted_to c.args.file.now executable))
+    absurd (cc (is, accepted_to Virtual c.args.file.now executable))
 
 -- Long arguments are refused before memory is taken.
 pub returns-clause-long : goal.returns-clause-long
@@ -139,7 +142,7 @@ returns-in_err-fill-clause-otherwise c = λ executable none fine.
     let top = im.laid_out.top in
     let writable = c.in-Ok-new.ensures.writable in
     let answer : c.from_residual-in_err-fill.result ≡ Err c.in_err-fill.field-0.0 = grind arith in
-    let there : IsFillable file image.stack_pointer (length c.deref.result.now) (process_writable c.in-Ok-new.memory) = record {
+    let there : IsFillable Virtual file image.stack_pointer (length c.deref.result.now) (process_writable c.in-Ok-new.memory) = record {
       segments = λ i j numbered within.
           let program = im.program i j numbered within in
           let under : p_vaddr file i + j < layout.end = omega (arith, program.1, im.laid_out.behind, im.laid_out.heap, im.laid_out.gap, im.laid_out.stack.0) in
@@ -148,4 +151,4 @@ returns-in_err-fill-clause-otherwise c = λ executable none fine.
           ap (λ w. w (image.stack_pointer + k)) writable ∙ lies layout.base layout.end _ (omega (arith, low, im.on_stack)) (omega (arith, there, size, fits));
       ends = omega (arith, size, fits, top);
     } in
-    rw answer (c.in_err-fill.ensures.fillable there)
+    rw answer (c.in_err-fill.ensures.fillable (rw c.in-Ok.ensures.placed there))

@@ -3,6 +3,7 @@ use Rattle.std.proofs.Common.{◌≡◌, ℕ, length, slice_index, replicate, ap
 use Rattle.std.proofs.lemmas.List.{length-replicate}
 use Rattle.rrs_memory.specs.declared.memories.VecMemory.{VecMemory}
 use Rattle.rrs_elf.specs.Headers.{e_entry}
+use Rattle.rrs_elf.specs.declared.program_headers.Addresses.TheVariants.{Physical}
 use Rattle.rrs_board.specs.Boards.{EndsOutside, is_in_ram}
 use Rattle.rrs_board.proofs.Loaded.{stands_in_ram, all_in_ram, ends_at, outside_ram}
 use Rattle.rrs_board.proofs.board.Board.load.Goals as goal
@@ -23,7 +24,7 @@ returns-in-Ok-load-clause-starts c =
     let layout : left.mem.len ≡ given.mem.len = ap (λ numbers. slice_index numbers 0) c.load.ensures.layout_kept in
     let kept : length new ≡ length old = sym left.mem.ok.0 ∙ layout ∙ given.mem.ok.0 in
     let is_new : made.result.memory.ram.mem.items ≡ new = ap (λ (r : VecMemory). r.mem.items) empty.ram_is in
-    let stands = stands_in_ram file read old (replicate c.args.words 0) new made.result.memory.ram.mem.items same zeros is_new kept
+    let stands = stands_in_ram c.in-Ok.executable.addresses file read old (replicate c.args.words 0) new made.result.memory.ram.mem.items (search rules) same zeros is_new kept
     c.in-Ok-load.ensures.loaded in
     record {
       reset = record {
@@ -47,6 +48,7 @@ returns-in-Err-load-clause-outside c = λ address is.
     let zeros : old ≡ replicate c.args.words 0 = c.in-Ok-new.ensures in
     let many : length old ≡ c.args.words = ap length zeros ∙ length-replicate c.args.words 0 in
     let at = c.in-Err-load.refused.address in
-    let ends = ends_at _ _ _ _ read _ _ at c.in-Err-load.ensures.refused in
+    let physical : c.in-Ok.executable.addresses ≡ Physical = search rules in
+    let ends = ends_at _ _ _ _ read _ _ at (rw physical at c.in-Err-load.ensures.refused) in
     subst (λ a. EndsOutside file (is_in_ram c.args.words) a) (cc is)
     (subst (λ f. EndsOutside f (is_in_ram c.args.words) at) same (outside_ram read old c.args.words at many ends))

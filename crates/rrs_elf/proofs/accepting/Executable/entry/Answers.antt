@@ -4,4 +4,4 @@ use Rattle.rrs_elf.proofs.accepting.Executable.entry.Goals as goal
 
 pub returns-clause-aligned : goal.returns-clause-aligned
 returns-clause-aligned c =
-    ap (λ n. n % 4) c.read_word.ensures ∙ (holds c.args.self.now.file.now c.args.self.now.accepted).entry_aligned
+    ap (λ n. n % 4) c.read_word.ensures ∙ (holds c.args.self.now.addresses c.args.self.now.file.now c.args.self.now.accepted).entry_aligned

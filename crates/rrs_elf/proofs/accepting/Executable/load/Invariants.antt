@@ -8,8 +8,8 @@ use Rattle.rrs_elf.proofs.accepting.Executable.load.Given as goal
 abbrev pub invariant-loop-index : goal.invariant-loop-index
 invariant-loop-index g l = record {
   counted : l.index-end ≡ e_phnum l.self.file.now;
-  stands : Stands l.self.file.now (g.M.Memory.bytes l.fn.memory) (g.M.Memory.bytes l.memory) (g.M.Memory.writable l.fn.memory) l.index 0;
-  made : Makes g.M.Memory.reads g.M.Memory.writes (segment_writes (g.M.Memory.writable l.fn.memory) l.self.file.now l.index) l.fn.memory l.memory;
+  stands : Stands l.self.addresses l.self.file.now (g.M.Memory.bytes l.fn.memory) (g.M.Memory.bytes l.memory) (g.M.Memory.writable l.fn.memory) l.index 0;
+  made : Makes g.M.Memory.reads g.M.Memory.writes (segment_writes l.self.addresses (g.M.Memory.writable l.fn.memory) l.self.file.now l.index) l.fn.memory l.memory;
   writable_kept : g.M.Memory.writable l.memory ≡ g.M.Memory.writable l.fn.memory;
   layout_kept : g.M.Memory.layout l.memory ≡ g.M.Memory.layout l.fn.memory;
 }
