@@ -122,15 +122,3 @@ pub record HandsOver (handed : List ℕ) (address : ℕ) (old new : Board) : Typ
 abbrev pub is_in_ram : ℕ → ℕ → Bool
 is_in_ram words address = nat_le ram_start address
     && (nat_lt address (ram_start + 4 * words) && nat_lt address (2 ^ 32))
-
--- A load of an executable ends at this address, the physical one of byte k of segment n, which is
--- not one of these. All bytes of the segments before it are, and those of segment n before byte k.
-pub record EndsOutside (file : List ℕ) (is_in : ℕ → Bool) (address : ℕ) : Type 0 where
-  pub n : ℕ
-  pub k : ℕ
-  pub numbered : n < e_phnum file
-  pub within : k < loaded_size file n
-  pub here : address ≡ p_paddr file n + k
-  pub outside : is_in address ≡ false
-  pub segments : (i j : ℕ) → i < n → j < loaded_size file i → is_in (p_paddr file i + j) ≡ true
-  pub part : (j : ℕ) → j < k → is_in (p_paddr file n + j) ≡ true

@@ -1,11 +1,13 @@
 //! A board with an executable in its RAM.
 
-ghost use Rattle.std.specs.Prelude.{◌≡◌, ℕ, Err, IfOk};
+ghost use Rattle.std.specs.Prelude.{◌≡◌, ◌+◌, ◌*◌, ◌^◌, ℕ, min, Err, IfOk};
 ghost use Rattle.rrs_elf.specs.Refusals.{first_refusal, checks_at};
-ghost use Rattle.rrs_board.specs.Boards.{StartsWith, EndsOutside, is_in_ram};
+ghost use Rattle.rrs_elf.specs.Loading.{EndsOutside};
+ghost use Rattle.rrs_board.specs.Registers.{ram_start};
+ghost use Rattle.rrs_board.specs.Boards.{StartsWith, is_in_ram};
 
 use crate::board::Board;
-use crate::memory::Ram;
+use crate::memory::{RAM_START, Ram};
 use rrs_elf::{Addresses, ElfError, Executable};
 use std::alloc::Global;
 
@@ -18,6 +20,13 @@ pub enum BoardError {
     Refused(u32),
     /// Out of memory.
     OutOfMemory,
+}
+
+/// The address after the last of so many words of RAM.
+fn end_of_ram(words: usize) -> u64
+    ensures { result ≡ min (ram_start + 4 * words) (2 ^ 32) }
+{
+    u64::from(RAM_START) + 4 * words.min(1 << 29) as u64
 }
 
 impl Board {
@@ -37,7 +46,7 @@ impl Board {
         ensures elf { (refusal : ElfError) → result ≡ Err (BoardError.Elf refusal)
             → first_refusal (checks_at Addresses.Physical file.now) ≡ Err refusal }
         ensures outside { (address : ℕ) → result ≡ Err (BoardError.Refused address)
-            → EndsOutside file.now (is_in_ram words) address }
+            → EndsOutside Addresses.Physical file.now (is_in_ram words) address }
     {
         let executable = match Executable::parse_at(file, Addresses::Physical) {
             Ok(executable) => executable,
@@ -47,7 +56,7 @@ impl Board {
             Ok(ram) => ram,
             Err(_) => return Err(BoardError::OutOfMemory),
         };
-        match executable.load(&mut ram) {
+        match executable.load_over_zeros(&mut ram, RAM_START, end_of_ram(words)) {
             Ok(()) => Ok(Board::new(ram, executable.entry())),
             Err(refused) => Err(BoardError::Refused(refused.address)),
         }

@@ -1,12 +1,12 @@
 -- What stands as a load goes on.
-use Rattle.std.proofs.Common.{◌≡◌, ℕ, suc, ◌+◌, ◌-◌, ◌<◌, ◌≤◌, ◌^◌, ◌⊎◌, inl, inr, Bool, true, List, [], ◌∷◌, ◌++◌, length, Some, sym, ◌∙◌, ap, subst, arith, Option}
+use Rattle.std.proofs.Common.{◌≡◌, ◌≢◌, ℕ, suc, ◌+◌, ◌-◌, ◌<◌, ◌≤◌, ◌^◌, ◌⊎◌, inl, inr, Bool, true, min, List, [], ◌∷◌, ◌++◌, length, Some, sym, ◌∙◌, ap, subst, arith, Option}
 use Rattle.std.proofs.lemmas.Bool.Decides.{nat_tests}
 use Rattle.rrs_memory.specs.declared.MemAccessSize.{MemAccessSize}
 use Rattle.rrs_memory.specs.Bytes.{ByteMap}
 use Rattle.rrs_memory.specs.AccessLists.{Access, Makes}
 use Rattle.rrs_memory.specs.Loading.{Loaded}
 use Rattle.rrs_memory.proofs.ByteLemmas.{outside_from_none}
-use Rattle.rrs_elf.specs.Headers.{e_phnum, segment_start}
+use Rattle.rrs_elf.specs.Headers.{e_phnum, p_filesz, segment_start}
 use Rattle.rrs_elf.specs.declared.program_headers.Addresses.{Addresses}
 use Rattle.rrs_elf.specs.Executables.{HasAddress, IsExecutableAt}
 use Rattle.rrs_elf.specs.Loading.{segment_byte, segment_bytes, loaded_size, Stands}
@@ -62,6 +62,36 @@ Stands-part at file old mid new writable writable' n k is numbered within before
   where
     place : (a start k : ℕ) → (a < start) ⊎ ((start + k ≤ a) ⊎ ((start ≤ a) × (a - start < k)))
     place a start k = grind arith
+
+-- the zeros after the bytes of the file, of a segment whose addresses were 0
+pub Stands-rest : (at : Addresses) (file : List ℕ) (old new : ByteMap) (writable : ℕ → Bool) (n k : ℕ) → IsExecutableAt at file → n < e_phnum file
+    → k ≡ min (p_filesz file n) (loaded_size file n)
+    → ((j : ℕ) → j < loaded_size file n → old (segment_start at file n + j) ≡ Some 0)
+    → ((j : ℕ) → j < loaded_size file n → writable (segment_start at file n + j) ≡ true)
+    → Stands at file old new writable n k → Stands at file old new writable n (loaded_size file n)
+Stands-rest at file old new writable n k is numbered size zeros room stands = record {
+  segments = stands.segments;
+  part = λ j below. elim (split j k) [ inl low ↦ stands.part j low | inr high ↦ stands.others (segment_start at file n + j) (apart j below) (λ j' below' same. absurd (omega (arith, same, high, below'))) ∙ zeros j below ∙ ap Some (zero_behind j below high) ];
+  segments_writable = stands.segments_writable;
+  part_writable = room;
+  others = λ a none none_here. stands.others a none (λ j below. none_here j (omega (arith, below, size)));
+  mapped = stands.mapped;
+}
+  where
+    split : (j k : ℕ) → (j < k) ⊎ (k ≤ j)
+    split j k = grind arith
+
+    zero_behind : (j : ℕ) → j < loaded_size file n → k ≤ j → 0 ≡ segment_byte file n j
+    zero_behind j below high =
+        let behind : p_filesz file n ≤ j = omega (arith, size, high, below) in
+        grind (arith, nat_tests, behind)
+
+    apart : (j : ℕ) → j < loaded_size file n → (i j' : ℕ) → i < n → j' < loaded_size file i → segment_start at file n + j ≢ segment_start at file i + j'
+    apart j below i j' before inside same =
+        let mine = has_loaded at file i j' (omega (arith, before, numbered)) inside in
+        let other = has_loaded at file n j numbered below in
+        let shared = is.apart i n (segment_start at file i + j') mine (subst (λ a. HasAddress at file n a) same other) in
+        omega (arith, shared, before)
 
 -- the whole of a segment
 pub Stands-next : (at : Addresses) (file : List ℕ) (old new : ByteMap) (writable : ℕ → Bool) (n : ℕ) → Stands at file old new writable n (loaded_size file n) → Stands at file old new writable (suc n) 0

@@ -3,7 +3,7 @@
 -- the file size, the extra bytes are defined to hold the value 0." And which accesses it makes. A
 -- segment is loaded at its virtual address, p_vaddr, or "on systems for which physical addressing
 -- is relevant" at its physical one, p_paddr.
-use Rattle.std.specs.Prelude.{◌≡◌, ◌≢◌, ◌==◌, ℕ, zero, suc, ◌+◌, ◌<◌, Bool, true, false, nat_lt, if◌then◌else◌, List, [], ◌∷◌, ◌++◌, slice_index, Option, Some, is_some}
+use Rattle.std.specs.Prelude.{◌≡◌, ◌≢◌, ◌==◌, ℕ, zero, suc, ◌+◌, ◌<◌, Bool, true, false, ◌&&◌, nat_le, nat_lt, if◌then◌else◌, List, [], ◌∷◌, ◌++◌, slice_index, Option, Some, is_some}
 use Rattle.rrs_memory.specs.declared.MemAccessSize.{MemAccessSize}
 use Rattle.rrs_memory.specs.Bytes.{ByteMap}
 use Rattle.rrs_memory.specs.AccessLists.{Access, Makes}
@@ -65,3 +65,21 @@ pub record StopsAt {M : Type 0}
   pub stands : Stands at file (bytes old) (bytes new) writable n k
   pub made : Makes reads writes (segment_writes at writable file n
       ++ byte_writes writable (segment_start at file n) (segment_bytes file n (suc k))) old new
+
+-- an address from the first on and before the end
+abbrev pub lies_between : ℕ → ℕ → ℕ → Bool
+lies_between start end a = nat_le start a && nat_lt a end
+
+-- A load ends at this address, that of byte k of segment n, which is not one of these. All bytes of
+-- the segments before it are, and those of segment n before byte k.
+pub record EndsOutside (at : Addresses) (file : List ℕ) (is_in : ℕ → Bool) (address : ℕ)
+    : Type 0 where
+  pub n : ℕ
+  pub k : ℕ
+  pub numbered : n < e_phnum file
+  pub within : k < loaded_size file n
+  pub here : address ≡ segment_start at file n + k
+  pub outside : is_in address ≡ false
+  pub segments : (i j : ℕ) → i < n → j < loaded_size file i
+      → is_in (segment_start at file i + j) ≡ true
+  pub part : (j : ℕ) → j < k → is_in (segment_start at file n + j) ≡ true

@@ -5,12 +5,9 @@ use Rattle.std.specs.Prelude.{◌≡◌, ℕ, ◌-◌, ◌+◌, ◌*◌, ◌/◌
 use Rattle.std.specs.Bool.{OnTrue, OnFalse}
 use Rattle.rrs_memory.specs.declared.MemAccessSize.{MemAccessSize}
 use Rattle.rrs_memory.specs.Bytes.{ByteMap, width, store}
+pub use Rattle.rrs_elf.specs.Loading.{lies_between}
 use Rattle.rrs_fast.specs.ZeroWords.{bytes_or_zero}
 use Rattle.rrs_exec.specs.declared.process_memory.ProcessMemory.{ProcessMemory}
-
--- an address from the first on and before the end
-abbrev pub lies_between : ℕ → ℕ → ℕ → Bool
-lies_between base end a = nat_le base a && nat_lt a end
 
 -- zeros from the first address to the end
 abbrev pub zeros_between : ℕ → ℕ → ByteMap

@@ -1,9 +1,8 @@
 //! What a process starts from: an executable's entry, its stack, and the marks of its pages.
 
-ghost use Rattle.std.specs.Prelude.{◌≡◌, ◌≤◌, ◌<◌, ◌+◌, ◌%◌, ◌++◌, ◌∷◌, [], ℕ, List, map, string_bytes, IsOk, IfOk, IfErr, OnOk, MatchOption, None, Err, length};
-ghost use Rattle.rrs_fast.specs.Serving.{MakesSome};
+ghost use Rattle.std.specs.Prelude.{◌≡◌, ◌≤◌, ◌<◌, ◌+◌, ◌%◌, ◌++◌, ◌∷◌, [], ℕ, List, map, string_bytes, IsOk, IfOk, IfErr, OnOk, MatchOption, Some, None, Err, length, true};
 ghost use Rattle.rrs_elf.specs.Headers.{e_phnum, segment_start};
-ghost use Rattle.rrs_elf.specs.Loading.{loaded_size};
+ghost use Rattle.rrs_elf.specs.Loading.{loaded_size, lies_between};
 ghost use Rattle.rrs_elf.specs.ProgramHeaders.{IsProgramHeader};
 ghost use Rattle.rrs_exec.specs.InitialStack.{stack_bytes, stack_pointer};
 ghost use Rattle.rrs_exec.specs.Layouts.{IsLayout};
@@ -328,8 +327,8 @@ pub fn image_of(
     })
 }
 
-/// Writes an executable's segments and a process's stack into a memory, by accesses alone. The
-/// segments lie below the stack.
+/// Writes an executable's segments and a process's stack into a memory that lies where the layout
+/// says, and that is 0. The segments lie below the stack.
 ///
 /// # Errors
 ///
@@ -338,26 +337,27 @@ pub fn image_of(
 /// (`fillable`).
 pub fn fill<M: Memory>(
     executable: &Executable<'_>,
+    layout: &Layout,
     sp: u32,
     stack: &[u8],
     memory: &mut M,
 ) -> Result<(), ImageError>
-    requires { (i j : ℕ) → i < e_phnum executable.now.file.now
+    requires below { (i j : ℕ) → i < e_phnum executable.now.file.now
         → j < loaded_size executable.now.file.now i
         → segment_start executable.now.addresses executable.now.file.now i + j < sp }
+    requires writable { (a : ℕ)
+        → M.writable memory.old a ≡ lies_between layout.now.base layout.now.end a }
+    requires zeros { (a : ℕ) → M.writable memory.old a ≡ true → M.bytes memory.old a ≡ Some 0 }
     ensures filled { OnOk result (Filled executable.now.addresses executable.now.file.now
         sp stack.now (M.bytes memory.old) (M.bytes memory.new)) }
-    ensures made { OnOk result (MakesSome M.reads M.writes (λ accesses. Unit {0})
-        memory.old memory.new) }
     ensures writable_kept { M.writable memory.new ≡ M.writable memory.old }
-    ensures layout_kept { M.layout memory.new ≡ M.layout memory.old }
     ensures fillable { IsFillable executable.now.addresses executable.now.file.now
         sp (length stack.now) (M.writable memory.old)
         → IfErr result (λ error. error ≡ ImageError.OutOfMemory) }
     ensures refused { IfErr result (IsRefusal executable.now.addresses executable.now.file.now
         sp (length stack.now) (M.writable memory.old)) }
 {
-    if let Err(refused) = executable.load(memory) {
+    if let Err(refused) = executable.load_over_zeros(memory, layout.base, u64::from(layout.end)) {
         return Err(ImageError::Refused(refused.address));
     }
     let mut reader = stack;

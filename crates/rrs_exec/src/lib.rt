@@ -4,9 +4,9 @@
 //! and a stack with its arguments and environment variables. [ProcessMemory] is 0 until it is
 //! written, and takes no memory of the host until then. [ProtectedMemory] is one under marks, one a
 //! page. [initial_stack] makes the block of bytes that lies at the stack pointer, and
-//! [stack_pointer] says where that is. [image_of] puts these together for an executable, and [fill]
-//! writes them into a memory. What they are is written in `specs/Protection.antt`,
-//! `specs/InitialStack.antt`, `specs/Layouts.antt` and `specs/Images.antt`.
+//! [stack_pointer] says where that is. [image_of] puts these together for an executable. What they
+//! are is written in `specs/Protection.antt`, `specs/InitialStack.antt`, `specs/Layouts.antt` and
+//! `specs/Images.antt`.
 //!
 //! [load_process] makes a process of the bytes of an ELF file: its image, and its memory.
 //! [execute_process] runs it and serves its system calls. What that is, is written in
@@ -28,7 +28,7 @@ mod protected;
 mod stack;
 mod watching;
 
-pub use image::{Image, ImageError, fill, image_of, needed_memory};
+pub use image::{Image, ImageError, image_of, needed_memory};
 pub use layout::{Layout, layout_of};
 pub use marks::{PAGE_BYTES, PageRange, Protection, marks_of};
 pub use mending::{mend, run_mended};

@@ -110,7 +110,13 @@ pub fn load_process(
         Ok(memory) => memory,
         Err(_) => return Err(ImageError::OutOfMemory),
     };
-    fill(&executable, image.stack_pointer, &image.stack, &mut memory)?;
+    fill(
+        &executable,
+        &image.layout,
+        image.stack_pointer,
+        &image.stack,
+        &mut memory,
+    )?;
     Ok(LoadedProcess { image, memory })
 }
 

@@ -1,5 +1,5 @@
 -- The segments and the stack are in the memory.
-use Rattle.std.proofs.Common.{◌≡◌, ℕ, ◌+◌, ◌<◌, ◌≤◌, List, length, refl, map, true, ◌-◌, None, Err, inl, inr, subst, ap, ◌∙◌, arith, rules}
+use Rattle.std.proofs.Common.{◌≡◌, ℕ, ◌+◌, ◌<◌, ◌≤◌, List, length, refl, map, true, ◌-◌, None, Err, inl, inr, subst, sym, ap, ◌∙◌, arith, rules}
 use Rattle.std.specs.String.{string_bytes}
 use Rattle.std.proofs.lemmas.Bool.Decides.{nat_tests}
 use Rattle.rrs_memory.specs.Bytes.{ByteMap}
@@ -61,8 +61,16 @@ new-requires-clause-split c = omega (arith, c.in_ok-image.ensures.image.laid_out
 pub new-requires-clause-end : goal.new-requires-clause-end
 new-requires-clause-end c = omega (arith, c.in_ok-image.ensures.image.laid_out.end_page)
 
-pub fill-requires : goal.fill-requires
-fill-requires c =
+pub fill-requires-clause-writable : goal.fill-requires-clause-writable
+fill-requires-clause-writable c = λ a. ap (λ w. w a) c.in-Ok-new.ensures.writable
+
+pub fill-requires-clause-zeros : goal.fill-requires-clause-zeros
+fill-requires-clause-zeros c = λ a lies.
+    let is : lies_between c.in_ok-image.image.layout.base c.in_ok-image.image.layout.end a ≡ true = sym (ap (λ w. w a) c.in-Ok-new.ensures.writable) ∙ lies in
+    ap (λ f. f a) c.in-Ok-new.ensures.zeros ∙ (rw is refl)
+
+pub fill-requires-clause-below : goal.fill-requires-clause-below
+fill-requires-clause-below c =
     let im = c.in_ok-image.ensures.image in
     λ i j numbered within.
     rw c.in-Ok.ensures.placed (omega (arith, (im.program i j numbered within).1, im.laid_out.behind, im.laid_out.heap, im.laid_out.gap, im.on_stack))

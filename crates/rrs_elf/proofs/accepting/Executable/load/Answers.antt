@@ -10,7 +10,8 @@ use Rattle.rrs_elf.proofs.accepting.Executable.load.Goals as goal
 pub load_segment-requires : goal.load_segment-requires
 load_segment-requires g c = λ k below.
     let counted = c.loop-index.invariant.counted in
-    loaded_low c.args.self.now.addresses c.args.self.now.file.now c.loop-index.index k (holds c.args.self.now.addresses c.args.self.now.file.now c.args.self.now.accepted) (omega arith) below
+    let size = c.size_to_load-size.ensures _ _ c.read_program_header-segment.ensures in
+    loaded_low c.args.self.now.addresses c.args.self.now.file.now c.loop-index.index k (holds c.args.self.now.addresses c.args.self.now.file.now c.args.self.now.accepted) (omega arith) (omega (arith, below, size))
 
 pub loop-index-preserved : goal.loop-index-preserved
 loop-index-preserved g c =
@@ -19,7 +20,8 @@ loop-index-preserved g c =
     let at = c.args.self.now.addresses in
     let file = c.args.self.now.file.now in
     let n = c.loop-index.index in
-    let did = c.in_ok-load_segment.ensures in
+    let size : c.size_to_load-size.result ≡ loaded_size file n = c.size_to_load-size.ensures file n c.read_program_header-segment.ensures in
+    let did = rw size at c.in_ok-load_segment.ensures in
     let is = holds at file c.args.self.now.accepted in
     rw (add-one n) record {
       counted = counted;
@@ -37,7 +39,8 @@ returns-in_err-load_segment-clause-refused g c =
     let at = c.args.self.now.addresses in
     let file = c.args.self.now.file.now in
     let n = c.loop-index.index in
-    let did = c.in_err-load_segment.ensures in
+    let size : c.size_to_load-size.result ≡ loaded_size file n = c.size_to_load-size.ensures file n c.read_program_header-segment.ensures in
+    let did = rw size at c.in_err-load_segment.ensures in
     let stop = did.stopped in
     let is = holds at file c.args.self.now.accepted in
     let kept = so_far.writable_kept in
