@@ -6,6 +6,8 @@ usage: lines.py SEED COUNT            a source of so many statements, all of the
        lines.py SEED COUNT each       of so many lines each beginning, and each with one byte
                                       changed, at each place
        lines.py SEED COUNT .. layers  the same of instructions on CSRs and of extension A alone
+       lines.py --branches SEED COUNT FOLDER   so many sources of branches to labels that are
+                                      about as far as a branch reaches
        lines.py --behind FOLDER       of each directive a source, one of which has a text behind it
                                       that it does not take
        lines.py --refused SOURCE ERRORS   the lines of a source that GNU as refuses, by the errors
@@ -348,7 +350,29 @@ def behind(folder):
                 file.write(directive.replace("*", text) + "\n")
 
 
+def branches(seed, count, folder):
+    """Writes sources of branches and gaps. Every third has alignments."""
+    chance = random.Random(seed)
+    for number in range(count):
+        lines = []
+        labels = chance.randint(20, 200)
+        gaps = [".space %d" % size for size in (4, 8, 40, 200, 400, 800, 1000, 2000, 4000)]
+        others = ["nop"] * 3 + [".balign 8", ".balign 32"] * (number % 3 == 0)
+        for label in range(labels):
+            lines.append(f"l{label}:")
+            kind = chance.random()
+            if kind < 0.55:
+                name = chance.choice(BRANCHES + SWAPPED)
+                lines.append(f"    {name} a0, a1, l{chance.randrange(labels)}")
+            else:
+                lines.append("    " + chance.choice(gaps if kind < 0.85 else others))
+        with open(f"{folder}/branches{number}.s", "w") as file:
+            file.write("\n".join(lines) + "\n")
+
+
 def main():
+    if sys.argv[1] == "--branches":
+        return branches(int(sys.argv[2]), int(sys.argv[3]), sys.argv[4])
     if sys.argv[1] == "--behind":
         return behind(sys.argv[2])
     if sys.argv[1] == "--refused":

@@ -23,8 +23,15 @@ use rrs_asm_lines::{
 };
 use std::alloc::{Allocator, Global};
 
-/// The most times that a source is read for what symbols stand for.
-const MOST_READINGS: usize = 50;
+/// What the readings for what symbols stand for may cost while branches grow and shrink, and as
+/// much again while they only grow: the bytes that are read and laid out.
+const MOST_READ: usize = 1 << 26;
+
+/// What each of them costs at least, where the length of a branch changes.
+const LEAST_COST: usize = MOST_READ / 1000;
+
+/// What each of them costs at most, and where no such length changes.
+const MOST_COST: usize = MOST_READ / 50;
 
 /// The most sections of a source.
 const MOST_SECTIONS: usize = 256;
@@ -94,17 +101,21 @@ fn read_all<'a, A: Allocator + Copy>(
 }
 
 /// Reads the source for what symbols stand for, until each label stays where it is in its section:
-/// a branch whose target is out of reach is longer, which may put others out of reach. The sections
-/// are placed anew each time. Whether all end within the addresses.
+/// a branch whose target is out of reach is longer, which may put others out of reach. Where that
+/// does not end, since an alignment gives back what a branch takes, branches only grow from then
+/// on. The sections are placed anew each time. Whether all end within the addresses.
 fn settle<'a, A: Allocator + Copy>(
     source: &'a [u8],
     layout: Layout,
     symbols: &mut Symbols<'a, A>,
     reading: &mut Reading<'a, A>,
 ) -> bool {
-    for _ in 0..MOST_READINGS {
+    let mut left = 2 * MOST_READ;
+    for _ in 0..u64::MAX {
+        symbols.only_grows = left <= MOST_READ;
         read_again(source, Pass::Second, symbols, reading);
-        if !symbols.is_moved() && are_steady(&reading.sections) {
+        left = left.saturating_sub(cost(source, reading.total, symbols.has_changed()));
+        if left == 0 || !symbols.is_moved() && are_steady(&reading.sections) {
             break;
         }
         if !place(&mut reading.sections, layout) {
@@ -112,6 +123,18 @@ fn settle<'a, A: Allocator + Copy>(
         }
     }
     true
+}
+
+/// What a reading costs.
+fn cost(source: &[u8], total: usize, has_changed: bool) -> usize {
+    if has_changed {
+        source
+            .len()
+            .saturating_add(total)
+            .clamp(LEAST_COST, MOST_COST)
+    } else {
+        MOST_COST
+    }
 }
 
 /// Whether no label is moved, each section has as many bytes as in the reading before, holds what
@@ -374,6 +397,7 @@ fn read_line<'a, A: Allocator + Copy>(
         let (part, others) = first_part(text);
         let behind = text.len().saturating_sub(part.text().len());
         let start = error_before(part.text(), behind);
+        symbols.begin_part();
         match read_part(part, behind, &symbols.scope(), reading.site(), data) {
             Ok(read) => perform(read, data, number, start, symbols, reading),
             Err(halt) => reading.keep(Err(halt)),
@@ -585,6 +609,9 @@ fn keep_notes<A: Allocator>(notes: Notes, symbols: &mut Symbols<A>, reading: &mu
 {
     if let Some(distance) = notes.distance {
         symbols.keep_distance(reading.site().here, distance);
+    }
+    if let Some(branch) = notes.branch {
+        symbols.keep_branch(branch);
     }
     reading.align(reading.current, notes.alignment);
 }

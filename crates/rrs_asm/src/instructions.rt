@@ -125,7 +125,7 @@ fn read_branch(line: &mut Line, template: Instruction, branch: Branch) -> Statem
     ensures { IsNamed (table (row_of template)).name result }
 {
     let operands = read_operands(line, &OF_B);
-    if line.notes.is_far {
+    if line.notes.is_far() {
         let Operands { rs1, rs2, imm, .. } = operands;
         return Statement::Pseudo(Pseudo::Far(branch, rs1, rs2, imm));
     }
@@ -353,7 +353,7 @@ fn read_pseudo(line: &mut Line, form: PseudoForm) -> Pseudo
     ensures { pseudo_name result ≡ form_name form }
 {
     let operands = read_operands(line, operands_of_pseudo(form));
-    pseudo_of(form, operands, line.notes.is_far)
+    pseudo_of(form, operands, line.notes.is_far())
 }
 
 /// The operands of pseudo-instructions that are written as no format is.

@@ -7,7 +7,7 @@ use crate::expressions::{LOOSEST, Operator, Waiting, operator_before, operator_b
 use crate::lexing::{behind_blanks, is_name, split_word};
 use crate::literals::{digit_of, escaped, number_of};
 use crate::registers::register_number;
-use crate::symbols::{Found, Known, Scope};
+use crate::symbols::{Branch, Found, Known, Scope};
 use std::alloc::AllocError;
 
 /// Where a statement stands.
@@ -32,8 +32,18 @@ pub struct Notes {
     pub alignment: u32,
     /// How far its `%pcrel_hi` reaches.
     pub distance: Option<u32>,
-    /// Whether its target is out of a branch's reach, so that it is two instructions.
-    pub is_far: bool,
+    /// The branch that it is, if it is one.
+    pub branch: Option<Branch>,
+}
+
+impl Notes {
+    /// Whether it is a branch whose target is out of its reach, so that it is two instructions.
+    pub fn is_far(&self) -> bool {
+        match self.branch {
+            Some(branch) => branch.is_far,
+            None => false,
+        }
+    }
 }
 
 /// What stands in a value.
@@ -45,6 +55,8 @@ struct Terms {
     has_unknown: bool,
     /// A label of another section.
     has_other: bool,
+    /// A label further on in this section, which stands where it was in the reading before.
+    has_later: bool,
 }
 
 /// Numbers alone.
@@ -52,6 +64,7 @@ const NUMBERS: Terms = Terms {
     has_address: false,
     has_unknown: false,
     has_other: false,
+    has_later: false,
 };
 
 /// How a number may be written.
@@ -108,7 +121,7 @@ impl<'a, 's> Line<'a, 's> {
         let notes = Notes {
             alignment: 1,
             distance: None,
-            is_far: false,
+            branch: None,
         };
         Line {
             rest,
@@ -171,6 +184,20 @@ impl<'a, 's> Line<'a, 's> {
             }
             [] => None,
         }
+    }
+
+    /// Takes what stands before the next quotation mark or backslash.
+    pub fn plain_text(&mut self) -> &'a [u8] {
+        let text = self.rest;
+        for (index, byte) in text.iter().enumerate() {
+            if matches!(*byte, b'"' | b'\\') {
+                let (plain, rest) = text.split_at(index);
+                self.rest = rest;
+                return plain;
+            }
+        }
+        self.skip_all();
+        text
     }
 
     /// Takes a digit below a base, if one is next.
@@ -385,6 +412,7 @@ impl<'a, 's> Line<'a, 's> {
         self.terms.has_address |= found.is_label || is_unknown;
         self.terms.has_unknown |= is_unknown;
         self.terms.has_other |= found.is_elsewhere;
+        self.terms.has_later |= found.is_label && matches!(found.known, Known::Later(_));
         let kind = match found.known {
             Known::Now(value) => return value,
             Known::Later(value) if !is_known => return value,
@@ -528,21 +556,13 @@ impl<'a, 's> Line<'a, 's> {
     /// Takes the target of a branch, from `-reach` to below `reach`: the offset to it, which is
     /// even. Where a label is further away, or in another section, the branch is two instructions,
     /// the second a jump of this far, and the offset is that of the jump.
-    ///
-    /// GNU `as` does the same: while it reads the source it takes a label that was not met to be at
-    /// the beginning of the section, and else where it was in the reading before.
     pub fn branch_offset(&mut self, reach: u32, far: u32) -> i32 {
         self.skip_blanks();
         let error = self.error(SourceErrorKind::Range);
         let distance = self.value().wrapping_sub(self.site.here);
-        let guess = if self.terms.has_unknown {
-            self.site.start.wrapping_sub(self.site.here)
-        } else {
-            distance
-        };
-        self.notes.is_far = self.terms.has_other
-            || guess.wrapping_add(reach) >= reach.wrapping_mul(2);
-        let (offset, most) = if self.notes.is_far {
+        let branch = self.branch_of(distance, reach);
+        self.notes.branch = Some(branch);
+        let (offset, most) = if branch.is_far {
             (distance.wrapping_sub(4), far)
         } else {
             (distance, reach)
@@ -552,6 +572,30 @@ impl<'a, 's> Line<'a, 's> {
         let unaligned = error.with_kind(SourceErrorKind::Unaligned);
         self.fitting(offset, offset % 2 == 0, unaligned)
             .cast_signed()
+    }
+
+    /// The branch whose target was read, and is so far away.
+    ///
+    /// It is as GNU `as` has it: where a label was not met in the first reading, it is taken to be
+    /// at the beginning of the section. In each other reading a label further on is as far from
+    /// the branch as it was in the reading before.
+    fn branch_of(&self, distance: u32, reach: u32) -> Branch {
+        let offset = self.site.here.wrapping_sub(self.site.start);
+        let (before, was_far) = match self.symbols.branch {
+            Some(branch) => (branch.offset, branch.is_far),
+            None => (offset, false),
+        };
+        let length = if self.terms.has_unknown {
+            0u32.wrapping_sub(offset)
+        } else if self.terms.has_later {
+            distance.wrapping_sub(before.saturating_sub(offset))
+        } else {
+            distance
+        };
+        let is_far = self.terms.has_other
+            || length.wrapping_add(reach) >= reach.wrapping_mul(2)
+            || was_far && self.symbols.only_grows;
+        Branch { offset, is_far }
     }
 
     /// Takes a number of so many bits, signed or not.

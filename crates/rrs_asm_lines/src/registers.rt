@@ -1,20 +1,25 @@
 //! The names of registers: x0 to x31, and those of the ABI.
 
-use crate::lexing::place_among;
-
-/// The names of the ABI, in the order of the registers.
-const NAMES: &[u8] = b"zero ra sp gp tp t0 t1 t2 s0 s1 a0 a1 a2 a3 a4 a5 a6 a7 \
-    s2 s3 s4 s5 s6 s7 s8 s9 s10 s11 t3 t4 t5 t6";
-
 /// The number of the register of this name.
 pub fn register_number(name: &[u8]) -> Option<usize> {
     match name {
+        [b'z', b'e', b'r', b'o'] => Some(0),
+        [b'r', b'a'] => Some(1),
+        [b's', b'p'] => Some(2),
+        [b'g', b'p'] => Some(3),
+        [b't', b'p'] => Some(4),
         [b'f', b'p'] => Some(8),
+        [b't', digit @ b'0'..=b'2'] => Some(5 + usize::from(*digit - b'0')),
+        [b's', digit @ b'0'..=b'1'] => Some(8 + usize::from(*digit - b'0')),
+        [b'a', digit @ b'0'..=b'7'] => Some(10 + usize::from(*digit - b'0')),
+        [b's', digit @ b'2'..=b'9'] => Some(16 + usize::from(*digit - b'0')),
+        [b's', b'1', digit @ b'0'..=b'1'] => Some(26 + usize::from(*digit - b'0')),
+        [b't', digit @ b'3'..=b'6'] => Some(25 + usize::from(*digit - b'0')),
         [b'x', digit @ b'0'..=b'9'] => Some(usize::from(*digit - b'0')),
         [b'x', ten @ b'1'..=b'3', digit @ b'0'..=b'9'] => {
             let number = usize::from(*ten - b'0') * 10 + usize::from(*digit - b'0');
             (number < 32).then_some(number)
         }
-        _ => place_among(NAMES, name),
+        _ => None,
     }
 }

@@ -1,6 +1,7 @@
 //! Symbols: labels, local labels and constants, and how far each `%pcrel_hi` reaches.
 //!
-//! All are entries of one table, found by a hash of their name or number.
+//! All are entries of one table, found by a hash of their name or number. Beside them it is kept
+//! of each branch where it was.
 
 use crate::errors::SourceErrorKind;
 use crate::reading::Site;
@@ -59,6 +60,15 @@ impl Found {
             is_elsewhere: false,
         }
     }
+}
+
+/// A branch in a reading.
+#[derive(Clone, Copy)]
+pub struct Branch {
+    /// How far it is from the beginning of its section.
+    pub offset: u32,
+    /// Whether its target is out of its reach, so that it is two instructions.
+    pub is_far: bool,
 }
 
 /// What an entry is found by.
@@ -154,6 +164,14 @@ pub struct Symbols<'a, A: Allocator = Global> {
     is_full: bool,
     /// Whether a label stands at another place of its section than in the reading before.
     is_moved: bool,
+    /// How many labels and statements of the source were begun in this reading.
+    begun: usize,
+    /// Of each of them by its number, how it was in the reading before, if it is a branch.
+    branches: Vec<Option<Branch>, A>,
+    /// Whether a branch has another length than in the reading before.
+    has_changed: bool,
+    /// Whether a branch of two instructions stays one.
+    pub only_grows: bool,
     /// The number of this reading.
     number: u32,
     /// Which reading it is.
@@ -166,6 +184,10 @@ pub struct Scope<'a, 's> {
     entries: &'s [Entry<'a>],
     slots: &'s [usize],
     counts: [u32; 10],
+    /// The statement as it was in the reading before, if it is a branch.
+    pub branch: Option<Branch>,
+    /// Whether a branch of two instructions stays one.
+    pub only_grows: bool,
     /// The number of this reading.
     number: u32,
     /// Which reading it is.
@@ -261,6 +283,8 @@ impl<'a, A: Allocator> Symbols<'a, A> {
     pub fn begin(&mut self, pass: Pass) {
         self.counts = [0; 10];
         self.is_moved = false;
+        self.begun = 0;
+        self.has_changed = false;
         self.number = self.number.saturating_add(1);
         self.pass = pass;
     }
@@ -271,9 +295,41 @@ impl<'a, A: Allocator> Symbols<'a, A> {
             entries: &self.entries,
             slots: &self.slots,
             counts: self.counts,
+            branch: self.branch(),
+            only_grows: self.only_grows,
             number: self.number,
             pass: self.pass,
         }
+    }
+
+    /// Begins the next label or statement of the source.
+    pub fn begin_part(&mut self) {
+        self.begun = self.begun.saturating_add(1);
+    }
+
+    /// The statement as it was in the reading before, if it is a branch.
+    fn branch(&self) -> Option<Branch> {
+        self.branches.get(self.begun).copied().unwrap_or(None)
+    }
+
+    /// Keeps the statement, which is a branch.
+    pub fn keep_branch(&mut self, branch: Branch) {
+        self.has_changed |= match self.branch() {
+            Some(before) => before.is_far != branch.is_far,
+            None => true,
+        };
+        if self.branches.len() <= self.begun {
+            let count = self.begun.saturating_add(1);
+            self.is_full |= self.branches.resize(count, None).is_err();
+        }
+        if let Some(kept) = self.branches.get_mut(self.begun) {
+            *kept = Some(branch);
+        }
+    }
+
+    /// Whether a branch has another length than in the reading before.
+    pub fn has_changed(&self) -> bool {
+        self.has_changed
     }
 
     /// Whether a label stands at another place of its section than in the reading before.
@@ -412,6 +468,10 @@ impl<'a, A: Allocator + Copy> Symbols<'a, A> {
             has_distances: false,
             is_full: false,
             is_moved: false,
+            begun: 0,
+            branches: Vec::new(alloc),
+            has_changed: false,
+            only_grows: false,
             number: 0,
             pass: Pass::First,
         }
