@@ -342,6 +342,8 @@ fn read_strings<A: Allocator>(line: &mut Line, is_ended: bool, bytes: &mut Vec<u
 fn read_string<A: Allocator>(line: &mut Line, bytes: &mut Vec<u8, A>) {
     line.expect(b'"', SourceErrorKind::Quote);
     for _ in 0..u64::MAX {
+        let plain = line.plain_text();
+        line.keep(bytes.extend_from_slice(plain));
         let byte = match line.next_byte() {
             Some(b'"') => return,
             Some(b'\\') => next_escaped(line),

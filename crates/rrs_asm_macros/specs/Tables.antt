@@ -1,6 +1,6 @@
--- What a source has defined, and how much may still be read. GNU `as` reads macros without end; here
--- no more than 64 MiB of lines are read, each as often as it is read, and a call and a repetition
--- count 256 bytes more.
+-- What a source has defined, and how much may still be read. GNU `as` reads macros without end;
+-- here no more than 128 MiB are read: lines, each as often as it is read and with 28 bytes more,
+-- statements of macros with 48 more, and for a call and a repetition 256 more.
 use Rattle.std.specs.Prelude.{◌≡◌, ℕ, List, map, ◌+◌, ◌-◌, ◌<◌, ◌≤◌, Option, Some, unwrap_or}
 use Rattle.std.specs.Char.{to_ascii_lowercase}
 use Rattle.std.specs.BTreeMap.{get_by}

@@ -116,7 +116,7 @@ fn read_line<A: Allocator + Copy>(
     ensures macros_kept { tables.new.macros ≡ tables.old.macros }
 {
     let (line, others) = first_line(rest);
-    tables.spend(line.len().saturating_add(1), rest.len());
+    tables.spend_line(line.len(), rest.len());
     tables.note_line(line);
     let start = text.len().saturating_sub(rest.len());
     let span = Span {
@@ -143,7 +143,7 @@ fn read_statement<A: Allocator + Copy>(
 {
     let statement = first_statement(rest);
     let others = statement.others.unwrap_or(&[]).len();
-    tables.spend(rest.len().saturating_sub(others), rest.len());
+    tables.spend_statement(rest.len().saturating_sub(others), rest.len());
     let origin = reader.origin();
     reader.go_on(text, statement.others, usize::from(statement.ends_line));
     let site = Site {

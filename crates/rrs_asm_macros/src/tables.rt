@@ -20,11 +20,18 @@ use rrs_asm_lines::split_word;
 use std::alloc::Allocator;
 use std::collections::BTreeMap;
 
-/// The most bytes of lines that are read, each as often as it is read: 64 MiB.
-const MOST_READ: usize = 0x400_0000;
+/// The most that may be read, 128 MiB: the bytes of lines, each as often as it is read, and what
+/// each line, statement, call and repetition counts beside them.
+const MOST_READ: usize = 0x800_0000;
 
 /// What a call, and a repetition, counts beside its lines, in bytes that are read.
 const OF_ENTRY: usize = 256;
+
+/// What a line counts beside its bytes.
+const OF_LINE: usize = 28;
+
+/// What a statement that is one of macros counts beside its bytes.
+const OF_STATEMENT: usize = 48;
 
 /// The lines of a macro.
 #[derive(Drop)]
@@ -62,7 +69,7 @@ impl<A: Allocator + Copy> Tables<A> {
     /// Nothing is defined.
     pub fn new(alloc: A) -> Self
         ensures calls { result.calls ≡ 0 }
-        ensures left { result.left ≡ 0x4000000 }
+        ensures left { result.left ≡ 0x8000000 }
         ensures mistake { result.mistake ≡ None }
         ensures long { result.symbols.is_short ≡ false }
     {
@@ -110,6 +117,20 @@ impl<A: Allocator + Copy> Tables<A> {
                 self.keep(Some(Halt::Slip(Slip { kind, left })));
             }
         }
+    }
+
+    /// Counts a line of so many bytes.
+    pub fn spend_line(&mut self, bytes: usize, left: usize)
+        ensures { Spends self.old self.new (capped (bytes + 28)) left }
+    {
+        self.spend(bytes.saturating_add(OF_LINE), left);
+    }
+
+    /// Counts a statement of macros that has so many bytes.
+    pub fn spend_statement(&mut self, bytes: usize, left: usize)
+        ensures { Spends self.old self.new (capped (bytes + 48)) left }
+    {
+        self.spend(bytes.saturating_add(OF_STATEMENT), left);
     }
 
     /// Counts lines of so many bytes that are read next: a call's, or a repetition's.

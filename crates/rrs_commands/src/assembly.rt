@@ -76,6 +76,7 @@ pub fn products_of<'a, H: Files + Eprint + AllocGlobal>(
 {
     let layout = layout_of(request);
     let expanded = expanded_of(rt, path, source)?;
+    let shown = shown_text(rt.alloc(), request, &expanded)?;
     let whole = with_files(rt, path, expanded, request.has_any_file, request.output)?;
     let program = program_of(rt, path, request, &whole, layout)?;
     let executable = executable_for(rt.alloc(), path, request, &program)?;
@@ -83,7 +84,8 @@ pub fn products_of<'a, H: Files + Eprint + AllocGlobal>(
         rt.alloc(),
         path,
         request,
-        &whole,
+        &shown,
+        &whole.lines,
         &program,
         layout.text_start,
     )?;
@@ -204,7 +206,25 @@ fn refused(path: &str, error: ExecutableError) -> Refusal<'_> {
     Refusal::File(path, fault)
 }
 
-/// What is printed of a program whose first section lies at an address.
+/// The text that a listing shows: that of the source before its files are put into it.
+///
+/// # Errors
+///
+/// Out of memory as a failure.
+fn shown_text<'a>(
+    alloc: Global,
+    request: Request<'_>,
+    expanded: &Expanded,
+) -> Result<Vec<u8>, Refusal<'a>> {
+    let mut shown = Vec::new(alloc);
+    if request.form == Form::Listing && shown.extend_from_slice(&expanded.text).is_err() {
+        return Err(out_of_memory());
+    }
+    Ok(shown)
+}
+
+/// What is printed of a program whose first section lies at an address, where a listing shows this
+/// text, with the numbers of its lines.
 ///
 /// # Errors
 ///
@@ -214,7 +234,8 @@ fn text_of<'a>(
     alloc: Global,
     path: &'a str,
     request: Request<'a>,
-    expanded: &Expanded,
+    shown: &[u8],
+    lines: &[usize],
     program: &Program,
     text_start: u32,
 ) -> Result<Vec<u8>, Refusal<'a>>
@@ -235,7 +256,7 @@ fn text_of<'a>(
                 Err(_) => Err(out_of_memory()),
             }
         }
-        Form::Listing => match listing_of(alloc, &expanded.text, &expanded.lines, program) {
+        Form::Listing => match listing_of(alloc, shown, lines, program) {
             Ok(listing) => Ok(listing),
             Err(_) => Err(out_of_memory()),
         },

@@ -1,14 +1,14 @@
 //! The files that a source names by `.incbin`.
 //!
-//! A statement `.incbin "NAME", SKIP, COUNT` becomes a `.byte` with the bytes of the file, in the
-//! same line. The file is looked for beside the source, or in a folder there. Another path, and
-//! what is no file, is refused, unless the caller allows any.
+//! A statement `.incbin "NAME", SKIP, COUNT` becomes an `.ascii` with the bytes of the file, in the
+//! same line. The file is looked for beside the source, or in a folder there. Another path, a link
+//! that leads out of the folder, and what is no file, is refused, unless the caller allows any.
 
 ghost use Rattle.std.specs.Prelude.{◌≡◌, true, IfOk};
 ghost use Rattle.rrs_commands.specs.Files.{Includes, NamesFile};
 
 use rrs_asm_lines::{Part, begins_with, behind_blanks, first_line, first_part, split_word};
-use rrs_asm_macros::Expanded;
+use rrs_asm_macros::{Expanded, MOST_MADE};
 use rrs_asm_output::{MOST_MISTAKES, number_of};
 use rrs_reports::ShownName;
 use rrs_run_commands::files::read_file;
@@ -16,10 +16,22 @@ use rrs_run_commands::places::{is_named, told_written};
 use rrs_run_commands::refusal::{FileFault, Refusal, out_of_memory};
 use std::alloc::{AllocError, Global};
 use std::fs;
+use std::io::{self, ErrorKind};
 use std::rt::Files;
 
 /// The name of the directive.
 const NAME: &[u8] = b".incbin";
+
+/// How many bytes a file counts beside its own.
+const OF_FILE: usize = 1024;
+
+/// A text with the bytes of files.
+#[derive(Drop)]
+struct Made {
+    text: Vec<u8>,
+    /// How many bytes the source has, with those of the files so far.
+    size: usize,
+}
 
 /// What a statement asks for.
 #[derive(Clone, Copy)]
@@ -71,7 +83,8 @@ pub fn with_files<'a, 'p, H: Files + Eprint + AllocGlobal>(
     Ok(Expanded { text, lines })
 }
 
-/// The text with the bytes of its files. The first 20 lines with mistakes are told.
+/// The text with the bytes of its files. The first 20 lines with mistakes are told, up to the one
+/// whose file is too much.
 fn text_with_files<'a, 'p, H: Files + Eprint + AllocGlobal>(
     rt: &H,
     path: &'p str,
@@ -79,7 +92,10 @@ fn text_with_files<'a, 'p, H: Files + Eprint + AllocGlobal>(
     has_any_file: bool,
     output: Option<&'p str>,
 ) -> Result<Vec<u8>, Refusal<'a>> {
-    let mut text = Vec::new(rt.alloc());
+    let mut made = Made {
+        text: Vec::new(rt.alloc()),
+        size: expanded.text.len(),
+    };
     let mut rest = Some(expanded.text.as_slice());
     let mut wrong = 0usize;
     for number in 1..=expanded.lines.len() {
@@ -94,23 +110,23 @@ fn text_with_files<'a, 'p, H: Files + Eprint + AllocGlobal>(
             line: number_of(&expanded.lines, number),
             column: 1,
         };
-        match put_line(rt, place, line, &mut text) {
+        match put_line(rt, place, line, &mut made) {
             Ok(()) => (),
             Err(Refusal::SourceErrors) => wrong = wrong.saturating_add(1),
             Err(refusal) => return Err(refusal),
         }
-        if wrong >= MOST_MISTAKES {
+        if wrong >= MOST_MISTAKES || made.size > MOST_MADE {
             break;
         }
         if others.is_some() {
-            push(&mut text, b"\n")?;
+            push(&mut made.text, b"\n")?;
         }
         rest = others;
     }
     if wrong > 0 {
         Err(Refusal::SourceErrors)
     } else {
-        Ok(text)
+        Ok(made.text)
     }
 }
 
@@ -119,7 +135,7 @@ fn names_file(text: &[u8]) -> bool
     ensures { result ≡ true → NamesFile text.now }
 {
     for index in 0..text.len() {
-        if text[index..].starts_with(NAME) {
+        if text[index] == b'.' && text[index..].starts_with(NAME) {
             return true;
         }
     }
@@ -139,7 +155,7 @@ fn put_line<'a, H: Files + Eprint + AllocGlobal>(
     rt: &H,
     place: Place<'_>,
     line: &[u8],
-    text: &mut Vec<u8>,
+    made: &mut Made,
 ) -> Result<(), Refusal<'a>> {
     let mut rest = Some(line);
     for _ in 0..=line.len() {
@@ -155,8 +171,8 @@ fn put_line<'a, H: Files + Eprint + AllocGlobal>(
             column: column_of(line, left),
             ..place
         };
-        put_part(rt, place, part, text)?;
-        push(text, left.get(own..taken).unwrap_or(&[]))?;
+        put_part(rt, place, part, made)?;
+        push(&mut made.text, left.get(own..taken).unwrap_or(&[]))?;
         rest = others;
     }
     Ok(())
@@ -174,14 +190,14 @@ fn put_part<'a, H: Files + Eprint + AllocGlobal>(
     rt: &H,
     place: Place<'_>,
     part: Part<'_>,
-    text: &mut Vec<u8>,
+    made: &mut Made,
 ) -> Result<(), Refusal<'a>> {
     let Part::Statement(own) = part else {
-        return push(text, part.text());
+        return push(&mut made.text, part.text());
     };
     let (name, operands) = split_word(own);
     if name != NAME {
-        return push(text, own);
+        return push(&mut made.text, own);
     }
     let Some(request) = request_of(operands) else {
         return refuse(
@@ -190,7 +206,7 @@ fn put_part<'a, H: Files + Eprint + AllocGlobal>(
             "a file is named here, as .incbin \"NAME\", SKIP, COUNT",
         );
     };
-    put_file(rt, place, request, text)
+    put_file(rt, place, request, made)
 }
 
 /// Prints what is wrong at a place.
@@ -224,22 +240,17 @@ fn refuse_file<'a, H: Eprint>(
     Err(Refusal::SourceErrors)
 }
 
-/// Appends the bytes of a file as the operands of `.byte`.
+/// Appends the bytes of a file as the string of an `.ascii`.
 fn put_file<'a, H: Files + Eprint + AllocGlobal>(
     rt: &H,
     place: Place<'_>,
     request: Request<'_>,
-    text: &mut Vec<u8>,
+    made: &mut Made,
 ) -> Result<(), Refusal<'a>> {
     let Ok(path) = beside(rt.alloc(), place.path, request.name) else {
         return Err(out_of_memory());
     };
-    if !place.has_any_file && !(is_inside(request.name) && is_file(rt, &path)) {
-        let what = "this is no file beside the source, which --incbin-anywhere allows";
-        return refuse_file(rt, place, what, &path);
-    }
-    if is_written(rt, place, &path)? {
-        let what = "the executable would be written over this file";
+    if let Some(what) = refused(rt, place, request.name, &path)? {
         return refuse_file(rt, place, what, &path);
     }
     let bytes = match read_file(rt, &path) {
@@ -256,10 +267,65 @@ fn put_file<'a, H: Files + Eprint + AllocGlobal>(
     let Some(bytes) = bytes.get(request.skip..end) else {
         return refuse_file(rt, place, "the file has fewer bytes", &path);
     };
-    match push_numbers(text, bytes) {
+    made.size = made
+        .size
+        .saturating_add(bytes.len())
+        .saturating_add(OF_FILE);
+    if made.size > MOST_MADE {
+        return refuse_file(
+            rt,
+            place,
+            "the source and its files have more than 64 MiB",
+            &path,
+        );
+    }
+    match push_string(&mut made.text, bytes) {
         Ok(()) => Ok(()),
         Err(_) => Err(out_of_memory()),
     }
+}
+
+/// Why a file that is named so and has this path is not read, if it is not.
+fn refused<'a, H: Files + AllocGlobal>(
+    rt: &H,
+    place: Place<'_>,
+    name: &[u8],
+    path: &str,
+) -> Result<Option<&'static str>, Refusal<'a>> {
+    if !place.has_any_file {
+        let is_allowed = is_inside(name) && is_file(rt, path) && stays(rt, place.path, path)?;
+        if !is_allowed {
+            let what = "this is no file beside the source, which --incbin-anywhere allows";
+            return Ok(Some(what));
+        }
+    }
+    let is_written = is_written(rt, place, path)?;
+    Ok(is_written.then_some("the executable would be written over this file"))
+}
+
+/// Whether a path leads, along its links, to a file in the folder of the source or below it. What
+/// is not there is left to who reads it.
+fn stays<'a, H: Files + AllocGlobal>(
+    rt: &H,
+    source: &str,
+    path: &str,
+) -> Result<bool, Refusal<'a>> {
+    let folder = match source.rfind('/') {
+        Some(at) => &source[..=at],
+        None => ".",
+    };
+    match is_below(rt, folder, path) {
+        Ok(is_below) => Ok(is_below),
+        Err(error) if error.kind() == ErrorKind::OutOfMemory => Err(out_of_memory()),
+        Err(error) => Ok(error.kind() == ErrorKind::NotFound),
+    }
+}
+
+/// Whether a path leads to what is in a folder or below it.
+fn is_below<H: Files + AllocGlobal>(rt: &H, folder: &str, path: &str) -> io::Result<bool> {
+    let folder = fs::canonicalize(rt, folder)?;
+    let file = fs::canonicalize(rt, path)?;
+    Ok(file.starts_with(folder.as_path()))
 }
 
 /// Whether a path is that of the file that is written.
@@ -307,23 +373,32 @@ fn beside(alloc: Global, path: &str, name: &[u8]) -> Result<String, AllocError> 
     Ok(beside)
 }
 
-/// Appends bytes as the operands of `.byte`, or no byte.
-fn push_numbers(text: &mut Vec<u8>, bytes: &[u8]) -> Result<(), AllocError> {
-    let mut before = b".byte 0x".as_slice();
-    for byte in bytes {
-        text.extend_from_slice(before)?;
-        text.extend_from_slice(&[digit(byte / 16), digit(byte % 16)])?;
-        before = b",0x";
+/// Appends bytes as the string of an `.ascii`, or no byte.
+fn push_string(text: &mut Vec<u8>, bytes: &[u8]) -> Result<(), AllocError> {
+    if bytes.is_empty() {
+        return Ok(());
     }
-    Ok(())
+    text.extend_from_slice(b".ascii \"")?;
+    let mut start = 0;
+    for (index, byte) in bytes.iter().enumerate() {
+        if let Some(escape) = escape_of(*byte) {
+            text.extend_from_slice(bytes.get(start..index).unwrap_or(&[]))?;
+            text.extend_from_slice(escape)?;
+            start = index + 1;
+        }
+    }
+    text.extend_from_slice(bytes.get(start..).unwrap_or(&[]))?;
+    Ok(text.push(b'"')?)
 }
 
-/// A hexadecimal digit.
-fn digit(value: u8) -> u8 {
-    b"0123456789abcdef"
-        .get(usize::from(value))
-        .copied()
-        .unwrap_or(b'0')
+/// How a byte is written in a string that can't stand there as it is.
+fn escape_of(byte: u8) -> Option<&'static [u8]> {
+    match byte {
+        b'"' => Some(b"\\\""),
+        b'\\' => Some(b"\\\\"),
+        b'\n' => Some(b"\\n"),
+        _ => None,
+    }
 }
 
 /// What the operands of a statement ask for.
