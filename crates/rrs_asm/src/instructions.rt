@@ -51,9 +51,15 @@ pub fn read_instruction(
     if let Some(form) = pseudo_named(name) {
         return Ok(Statement::Pseudo(read_pseudo(line, form)));
     }
+    if name == b"unimp".as_slice() {
+        return Ok(Statement::Unimp);
+    }
+    // The names of extension A are many, and each has a dot.
+    if !name.contains(&b'.') {
+        return Err(error);
+    }
     match atomic_named(name) {
         Some((row, funct7)) => Ok(read_atomic(line, row, funct7)),
-        None if name == b"unimp".as_slice() => Ok(Statement::Unimp),
         None => Err(error),
     }
 }

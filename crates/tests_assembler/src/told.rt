@@ -5,7 +5,7 @@ use rrs_asm_output::{MOST_MISTAKES, Mistake, mistakes_of};
 use std::alloc::{AllocError, Global};
 
 /// Sources, each with what is told of it.
-static TOLD: [(&str, &str); 41] = [
+static TOLD: [(&str, &str); 42] = [
     (
         "addi a0, a1, a2",
         "1:14: a number is wanted here: add takes three registers\n",
@@ -25,6 +25,13 @@ static TOLD: [(&str, &str); 41] = [
     (
         "add a0, a8, a1",
         "1:9: a register is wanted here: there is no a8, but a0 to a7\n",
+    ),
+    (
+        "lw a0, (a9)\nsw a0, ( s12 ) # s12\njalr a0, (b)\nlw a0, (ff)(sp)",
+        "1:9: a register is wanted here: there is no a9, but a0 to a7\n\
+         2:10: a register is wanted here: there is no s12, but s0 to s11\n\
+         3:11: a register is wanted here, and b is none: it is written jalr rd, offset(rs1)\n\
+         4:9: symbol is not defined: ff; is 0xff meant?\n",
     ),
     (
         "beq a0, a1, a2",
