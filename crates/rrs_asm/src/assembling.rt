@@ -31,7 +31,7 @@ const MOST_READ: usize = 1 << 26;
 const LEAST_COST: usize = MOST_READ / 1000;
 
 /// What each of them costs at most, and where no such length changes.
-const MOST_COST: usize = MOST_READ / 50;
+const MOST_COST: usize = MOST_READ / 25;
 
 /// The most sections of a source.
 const MOST_SECTIONS: usize = 256;

@@ -23,7 +23,7 @@ use crate::frames::{Condition, Frame, Origin, Reader};
 use crate::repetitions::each;
 use crate::scanning::{behind_labels, first_statement};
 use crate::substitution::without_comments;
-use crate::tables::{Lines, Tables};
+use crate::tables::{Lines, Tables, weight_of};
 use crate::values::value;
 use rrs_asm_lines::{behind_blanks, first_line, split_word};
 use std::alloc::Allocator;
@@ -425,7 +425,8 @@ fn repeat<A: Allocator + Copy>(
             each(tables, inside, cursor, are_characters)
         }
     };
-    cursor.want(tables.has_left(text.len(), copies), much);
+    let weight = weight_of(text.len(), height(&text));
+    cursor.want(tables.has_left(weight, copies), much);
     if cursor.mistake.is_some() {
         return None;
     }

@@ -33,6 +33,11 @@ const OF_LINE: usize = 28;
 /// What a statement that is one of macros counts beside its bytes.
 const OF_STATEMENT: usize = 48;
 
+/// What so many lines of so many bytes count at least.
+pub fn weight_of(bytes: usize, lines: usize) -> usize {
+    bytes.saturating_add(lines.saturating_mul(OF_LINE))
+}
+
 /// The lines of a macro.
 #[derive(Drop)]
 pub struct Lines<A: Allocator> {
