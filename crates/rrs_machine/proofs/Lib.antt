@@ -10,3 +10,4 @@ pub mod Counting
 pub mod Halted
 pub mod Legs
 pub mod TracedSteps
+pub mod Standing

@@ -1,6 +1,10 @@
 //! Exceptions and interrupts, and what they leave in the CSRs.
 
-ghost use Rattle.std.specs.Prelude.{◌≡◌, ◌+◌, ◌*◌, ◌/◌, ◌%◌, ◌^◌, ◌<◌};
+ghost use Rattle.std.specs.Prelude.{◌≡◌, ◌↔◌, ◌+◌, ◌*◌, ◌/◌, ◌%◌, ◌^◌, ◌<◌, IsTrue};
+ghost use Rattle.std.specs.Bool.{OnTrue, OnFalse};
+ghost use Rattle.rrs_lib.specs.Steps.{next_word};
+ghost use Rattle.rrs_machine.specs.MachineSteps.{MachineState};
+ghost use Rattle.rrs_machine.specs.Runs.{TakesNone, StandsStill, IsDead};
 ghost use Rattle.rrs_machine.specs.Traps.{exception_code, exception_value, interrupt_code, is_ready, ready_interrupt, is_enabled, interrupt_due, mode_bits, trap_file, previous_mode, returned_mprv, return_file, base_of, vector_of, call_from, exception_of_word, exception_of_fetch};
 
 use crate::csrs::{CsrFile, Inputs, Mode};
@@ -255,6 +259,53 @@ impl CsrFile {
         ensures { result ≡ base_of self.now }
     {
         self.mtvec / 4 * 4
+    }
+
+    /// Whether no interrupt can be taken, whatever comes from outside.
+    fn takes_none(&self) -> bool
+        ensures masked { OnTrue result (TakesNone self.now) }
+        ensures open { OnFalse result (¬ TakesNone self.now) }
+    {
+        let all_pending = Inputs {
+            external: true,
+            software: true,
+            timer: true,
+            time: 0,
+        };
+        self.interrupt_due(&all_pending).is_none()
+    }
+
+    /// Whether the trap of a fetch at a pc leaves these CSRs as they are.
+    fn is_after_fault(&self, pc: u32) -> bool
+        ensures { IsTrue result ↔ (trap_file 1 pc pc self.now ≡ self.now) }
+    {
+        let mut after = *self;
+        after.enter(1, pc, pc);
+        after == *self
+    }
+
+    /// Whether an instruction leads back to its pc, by the word there: it is `j .` or
+    /// `beq x0, x0, .`, or none is there, at the base of the handlers, after the trap of that.
+    fn leads_back(&self, pc: u32, word: Option<u32>) -> bool
+        ensures { IsTrue result ↔ StandsStill pc word self.now }
+    {
+        match word {
+            Some(word) => word == 0x6f || word == 0x63,
+            None => pc == self.base() && self.is_after_fault(pc),
+        }
+    }
+
+    /// Whether a hart with these CSRs stands still at a pc with this word, or none: no interrupt can
+    /// be taken, and the instruction leads back to it.
+    ///
+    /// The clauses: it is so exactly then (`stands`, `moves`), and such a hart is dead (`dead`).
+    pub fn stands_still(&self, pc: u32, word: Option<u32>) -> bool
+        ensures stands { OnTrue result (TakesNone self.now × StandsStill pc word self.now) }
+        ensures moves { OnFalse result (TakesNone self.now → ¬ StandsStill pc word self.now) }
+        ensures dead { OnTrue result ((s : MachineState) → s.csrs ≡ self.now → s.hart.pc ≡ pc
+            → next_word s.hart ≡ word → IsDead s) }
+    {
+        self.takes_none() && self.leads_back(pc, word)
     }
 
     /// Where an interrupt goes, by its code.
