@@ -178,6 +178,9 @@ class Screen {
 const BOARD_ENDS = {
   [EVENT.FINISHED]: (status) => `It was powered off, with status ${status}.`,
   [EVENT.NOTHING_WAKES]: () => "It waits, and nothing can wake it.",
+  [EVENT.SPINS]: () => "It jumps to itself, and no interrupt can be taken.",
+  [EVENT.LACKS_HANDLER]: () => "A trap went to where mtvec points, and no memory is there.",
+  [EVENT.RESTARTS]: () => "It asked to be started anew.",
 };
 
 /** A board with an image, and what is typed into it. */
@@ -288,6 +291,9 @@ class Board {
       case EVENT.NOTHING_WAKES:
         return this.waitForInput();
       case EVENT.FINISHED:
+      case EVENT.SPINS:
+      case EVENT.LACKS_HANDLER:
+      case EVENT.RESTARTS:
         this.ending = BOARD_ENDS[event](value);
         return 0;
       default:

@@ -48,7 +48,17 @@ const PROFILE = { ATOMICS: 1, USER_MODE: 2 };
 const NO_BOARD_ALARM = 2n ** 64n - 1n;
 
 /* What a run of a board has for its caller, as rrs.h numbers it. */
-const EVENT = { NONE: 0, TRANSMITTED: 1, LOOKED: 2, FINISHED: 3, WAITS: 4, NOTHING_WAKES: 5 };
+const EVENT = {
+  NONE: 0,
+  TRANSMITTED: 1,
+  LOOKED: 2,
+  FINISHED: 3,
+  WAITS: 4,
+  NOTHING_WAKES: 5,
+  SPINS: 6,
+  LACKS_HANDLER: 7,
+  RESTARTS: 8,
+};
 
 /* The flags of a segment whose bytes are executed, and of one that is written to. */
 const IS_CODE = 1;

@@ -497,7 +497,8 @@ class BoardEvent(enum.IntEnum):
     """What the last step of a run of a board has for the caller: nothing, since the limit was
     reached; a byte that was transmitted; a look at LSR or IIR that found none received; the
     program's end; a wfi that waits for the alarm, to which the time went forward; a wfi that
-    nothing wakes."""
+    nothing wakes; a hart that is dead, since it jumps to itself and takes no interrupt, or since a
+    trap went to a handler that can't be fetched; that the board is to start anew."""
 
     LIMIT = 0
     TRANSMITTED = 1
@@ -505,6 +506,9 @@ class BoardEvent(enum.IntEnum):
     FINISHED = 3
     WAITS = 4
     NOTHING_WAKES = 5
+    SPINS = 6
+    LACKS_HANDLER = 7
+    RESTARTS = 8
 
 
 class BoardEnd(NamedTuple):

@@ -750,6 +750,18 @@ class Faces(Counted):
             self.assertEqual((caught.exception.refusal, caught.exception.number), tuple(wanted))
             self.assertEqual(board.pc, 0x8000001C)
 
+    def test_a_board_tells_that_it_is_dead_and_that_it_restarts(self):
+        events = rrs.BoardEvent
+        for words, end in (([0x6F], (1, events.SPINS, 0)), ([0x63], (1, events.SPINS, 0)),
+                           ([0], (2, events.LACKS_HANDLER, 0)),
+                           ([0x13, 0xFFDFF06F], (9, events.LIMIT, 0)),
+                           ([0x001000B7, 0x00007137, 0x77710113, 0x0020A023],
+                            (4, events.RESTARTS, 0))):
+            self.assertEqual(rrs.Board(words).run(9), end)
+        board = rrs.Board([0x6F])
+        board.csrs.mie, board.csrs.mstatus = 0x80, 8
+        self.assertEqual(board.run(9), (9, events.LIMIT, 0))
+
     def test_a_board_waits_for_its_alarm_and_for_input(self):
         wfi, enable = 0x10500073, [0x100000B7, 0x00100113, 0x002080A3]  # sb x2, 1(x1), for IER
         board = rrs.Board([wfi, wfi, *enable])

@@ -5,7 +5,7 @@ use Rattle.std.proofs.KnownBytes.{Consumes-nil, Appends-nil, Appends-trans, Appe
 use Rattle.rrs_board.specs.declared.board.Board.{Board}
 use Rattle.rrs_board.specs.declared.board.BoardEnd.{BoardEnd}
 use Rattle.rrs_board.specs.declared.effects.BoardEvent.{BoardEvent}
-use Rattle.rrs_board.specs.declared.effects.BoardEvent.TheVariants.{Transmitted, Looked, Finished, Waits, NothingWakes}
+use Rattle.rrs_board.specs.declared.effects.BoardEvent.TheVariants.{Transmitted, Looked, Finished, Waits, NothingWakes, Spins, LacksHandler, Restarts}
 use Rattle.rrs_board.specs.declared.terminal.TerminalError.{TerminalError}
 use Rattle.rrs_board.specs.declared.terminal.TerminalError.TheVariants.{Input, Output}
 use Rattle.rrs_board.specs.Effects.{waits_for_input}
@@ -89,6 +89,9 @@ ends_by : (input rest : Option (List ℕ)) (typed : List ℕ) (event : BoardEven
     → EndsBy event b ended → (ended ≡ true → IsAtEnd rest) → Consumes input rest typed
     → EndsSession (Some event) b input typed
 ends_by input rest typed (Finished status) b ended ends at_end consumed = tt
+ends_by input rest typed Spins b ended ends at_end consumed = tt
+ends_by input rest typed LacksHandler b ended ends at_end consumed = tt
+ends_by input rest typed Restarts b ended ends at_end consumed = tt
 ends_by input rest typed NothingWakes b ended ends at_end consumed =
     λ waits. typed_all input rest typed consumed (at_end (ends waits))
 ends_by input rest typed (Transmitted byte) b ended ends at_end consumed = absurd ends
@@ -179,6 +182,9 @@ pub never_waits : (event : BoardEvent) (b : Board) (ended : Bool) (steps : ℕ) 
     → IfOk r (λ end. end.event ≡ Some NothingWakes → waits_for_input b.memory.devices ≡ false)
 never_waits event b ended steps (Err error) ends unseen is = tt
 never_waits (Finished status) b ended steps (Ok end) ends unseen is = λ at. absurd (cc (at, is.1))
+never_waits Spins b ended steps (Ok end) ends unseen is = λ at. absurd (cc (at, is.1))
+never_waits LacksHandler b ended steps (Ok end) ends unseen is = λ at. absurd (cc (at, is.1))
+never_waits Restarts b ended steps (Ok end) ends unseen is = λ at. absurd (cc (at, is.1))
 never_waits NothingWakes b ended steps (Ok end) ends unseen is =
     λ at. is_false (waits_for_input b.memory.devices) (λ waits. absurd (cc (ends waits, unseen)))
 never_waits (Transmitted byte) b ended steps (Ok end) ends unseen is = absurd ends
@@ -244,6 +250,9 @@ goes_printed b event byte input before after is printed = record {
 prints_none : (event : BoardEvent) → Asks event → printed_by event ≡ []
 prints_none (Transmitted byte) asks = absurd asks
 prints_none (Finished status) asks = absurd asks
+prints_none Spins asks = absurd asks
+prints_none LacksHandler asks = absurd asks
+prints_none Restarts asks = absurd asks
 prints_none Looked asks = refl
 prints_none Waits asks = refl
 prints_none NothingWakes asks = refl

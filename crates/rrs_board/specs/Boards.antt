@@ -9,7 +9,7 @@ use Rattle.rrs_board.specs.declared.board.Board.{Board}
 use Rattle.rrs_board.specs.declared.effects.BoardEvent.{BoardEvent}
 use Rattle.rrs_board.specs.declared.memory.BoardMemory.{BoardMemory}
 use Rattle.rrs_board.specs.Registers.{board_bytes, board_writable, ram_start, BoardReads, BoardWrites}
-use Rattle.rrs_board.specs.Effects.{inputs_of, settled, event_after, reset_devices}
+use Rattle.rrs_board.specs.Effects.{inputs_of, settled, event_after, Tells, StandsInVain, reset_devices}
 use Rattle.rrs_elf.specs.Headers.{e_entry, e_phnum, p_paddr}
 use Rattle.rrs_elf.specs.declared.program_headers.Addresses.TheVariants.{Physical}
 use Rattle.rrs_elf.specs.Loading.{Stands, loaded_size}
@@ -36,7 +36,16 @@ pub record BoardStepped (old new : Board) (answer : MachineAnswer) (event : Opti
       old.memory between
   pub ram : new.memory.ram ≡ between.ram
   pub devices : new.memory.devices ≡ settled answer new.csrs between.devices
-  pub told : event ≡ event_after answer new.csrs between.devices
+  pub told : Tells (event_after answer new.csrs between.devices) event
+      (machine_with new new.memory)
+
+-- The last step of some, if there was one, did not leave a board whose hart stands still where it
+-- stood before.
+abbrev pub WentOn : ℕ → Board → Type 0
+WentOn zero new = Unit {0}
+WentOn (suc n) new =
+    (mid : Board) × (answer : MachineAnswer) × BoardStepped mid new answer None
+    × (new.hart.pc ≡ mid.hart.pc → ¬ StandsInVain (machine_with new new.memory))
 
 -- so many steps, of which the caller is told nothing
 abbrev pub QuietSteps : ℕ → Board → Board → Type 0

@@ -1,19 +1,23 @@
 -- What the devices do between two steps: they answer to the access that the step made, and time
 -- goes on. What each of them is, is in Uart, Clint and Finisher.
-use Rattle.std.specs.Prelude.{ℕ, ◌+◌, ◌-◌, ◌*◌, ◌/◌, ◌%◌, ◌^◌, ◌&&◌, ◌||◌, nat_lt, not, Bool, false, if◌then◌else◌, Option, Some, None}
+use Rattle.std.specs.Prelude.{ℕ, ◌+◌, ◌-◌, ◌*◌, ◌/◌, ◌%◌, ◌^◌, ◌≡◌, ◌≢◌, ◌⊎◌, ◌≤◌, ◌&&◌, ◌||◌, nat_lt, not, Bool, false, if◌then◌else◌, Option, Some, None}
 use Rattle.rrs_machine.specs.declared.csrs.CsrFile.{CsrFile}
 use Rattle.rrs_machine.specs.declared.csrs.Inputs.{Inputs}
 use Rattle.rrs_machine.specs.declared.machine.MachineAnswer.{MachineAnswer}
 use Rattle.rrs_machine.specs.declared.machine.MachineAnswer.TheVariants.{Waiting}
+use Rattle.rrs_lib.specs.Steps.{next_word}
+use Rattle.rrs_machine.specs.Traps.{base_of}
+use Rattle.rrs_machine.specs.MachineSteps.{MachineState}
+use Rattle.rrs_machine.specs.Runs.{IsDead, TakesNone, StandsStill}
 use Rattle.rrs_board.specs.declared.devices.Devices.{Devices}
 use Rattle.rrs_board.specs.declared.devices.DeviceAccess.{DeviceAccess}
 use Rattle.rrs_board.specs.declared.uart.Uart.{Uart}
 use Rattle.rrs_board.specs.declared.effects.BoardEvent.{BoardEvent}
-use Rattle.rrs_board.specs.declared.effects.BoardEvent.TheVariants.{Transmitted, Looked, Finished, Waits, NothingWakes}
-use Rattle.rrs_board.specs.Registers.{wrote, looked_at}
+use Rattle.rrs_board.specs.declared.effects.BoardEvent.TheVariants.{Transmitted, Looked, Finished, Waits, NothingWakes, Spins, LacksHandler, Restarts}
+use Rattle.rrs_board.specs.Registers.{wrote, looked_at, ram_start}
 use Rattle.rrs_board.specs.Uart.{reset_uart, has_divisor, has_byte, asks_for_data, shown, after_look, after_write, after_arrival}
 use Rattle.rrs_board.specs.Clint.{no_alarm, has_software_interrupt, has_timer_interrupt, time_after, can_wake, later}
-use Rattle.rrs_board.specs.Finisher.{status_of}
+use Rattle.rrs_board.specs.Finisher.{status_of, restarts}
 
 -- ---- what the hart is told
 
@@ -110,10 +114,13 @@ abbrev pub ended_with : Option ℕ → Option BoardEvent
 ended_with None = None
 ended_with (Some status) = Some (Finished status)
 
+abbrev pub finisher_event : ℕ → Option BoardEvent
+finisher_event word = if restarts word then Some Restarts else ended_with (status_of word)
+
 -- what the caller is told of the access
 abbrev pub access_event : Devices → Option BoardEvent
 access_event d =
-    if wrote finisher_start d.access then ended_with (status_of d.finisher)
+    if wrote finisher_start d.access then finisher_event d.finisher
     else (if transmits d then Some (Transmitted (byte_at 0 d))
     else (if finds_none d then Some Looked else None))
 
@@ -136,6 +143,27 @@ settled answer file d = waited answer file (ticked answer (answered d))
 abbrev pub event_after : MachineAnswer → CsrFile → Devices → Option BoardEvent
 event_after Waiting file d = if can_wake file d.alarm then Some Waits else Some NothingWakes
 event_after answer file d = access_event d
+
+-- ---- a hart that is dead
+
+-- What the caller is told of a hart that is dead: that it jumps to itself in RAM, or that a trap
+-- went to a handler that is not there.
+abbrev pub IsToldDead : Option BoardEvent → MachineState → Type 0
+IsToldDead (Some Spins) s =
+    IsDead s × (ram_start ≤ s.hart.pc) × ((w : ℕ) × (next_word s.hart ≡ Some w))
+IsToldDead (Some LacksHandler) s =
+    IsDead s × (s.hart.pc ≡ base_of s.csrs) × (next_word s.hart ≡ None)
+IsToldDead event s = ⊥
+
+-- what the caller is told: what a device has for him, or else, it may be, that the hart is dead
+abbrev pub Tells : Option BoardEvent → Option BoardEvent → MachineState → Type 0
+Tells of_device event s = (event ≡ of_device) ⊎ ((of_device ≡ None) × IsToldDead event s)
+
+-- A hart stands still, and no device has its word. Such a hart is dead.
+pub record StandsInVain (s : MachineState) : Type 0 where
+  pub takes_none : TakesNone s.csrs
+  pub stands : StandsStill s.hart.pc (next_word s.hart) s.csrs
+  pub in_ram : next_word s.hart ≢ None → ram_start ≤ s.hart.pc
 
 -- ---- what comes from outside
 

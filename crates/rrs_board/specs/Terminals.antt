@@ -6,7 +6,7 @@ use Rattle.std.specs.Prelude.{◌≡◌, ℕ, ◌+◌, ◌-◌, Bool, true, List
 use Rattle.std.specs.Io.KnownBytes.{Appends, Consumes, Keeps}
 use Rattle.rrs_board.specs.declared.board.Board.{Board}
 use Rattle.rrs_board.specs.declared.effects.BoardEvent.{BoardEvent}
-use Rattle.rrs_board.specs.declared.effects.BoardEvent.TheVariants.{Transmitted, Looked, Finished, NothingWakes}
+use Rattle.rrs_board.specs.declared.effects.BoardEvent.TheVariants.{Transmitted, Looked, Finished, NothingWakes, Spins, LacksHandler, Restarts}
 use Rattle.rrs_board.specs.declared.terminal.TerminalError.{TerminalError}
 use Rattle.rrs_board.specs.declared.terminal.TerminalError.TheVariants.{Input}
 use Rattle.rrs_board.specs.Effects.{arrived, waits_for_input}
@@ -31,6 +31,9 @@ printed_by _ = []
 -- it
 abbrev pub Goes : BoardEvent → Board → Type 0
 Goes (Finished status) b = ⊥
+Goes Spins b = ⊥
+Goes LacksHandler b = ⊥
+Goes Restarts b = ⊥
 Goes NothingWakes b = waits_for_input b.memory.devices ≡ true
 Goes event b = Unit {0}
 
@@ -82,6 +85,9 @@ module _ {V : Type 0} (runs : Runner V) (limit : ℕ) (start : Board) (begun : V
 abbrev pub EndsSession : Option BoardEvent → Board → Option (List ℕ) → List ℕ → Type 0
 EndsSession None b input typed = Unit {0}
 EndsSession (Some (Finished status)) b input typed = Unit {0}
+EndsSession (Some Spins) b input typed = Unit {0}
+EndsSession (Some LacksHandler) b input typed = Unit {0}
+EndsSession (Some Restarts) b input typed = Unit {0}
 EndsSession (Some NothingWakes) b input typed =
     waits_for_input b.memory.devices ≡ true → IfSome input (λ all. all ≡ typed)
 EndsSession (Some event) b input typed = ⊥
@@ -90,6 +96,9 @@ EndsSession (Some event) b input typed = ⊥
 abbrev pub Asks : BoardEvent → Type 0
 Asks (Transmitted byte) = ⊥
 Asks (Finished status) = ⊥
+Asks Spins = ⊥
+Asks LacksHandler = ⊥
+Asks Restarts = ⊥
 Asks event = Unit {0}
 
 abbrev pub AsksAt : Option BoardEvent → Type 0
@@ -97,7 +106,8 @@ AsksAt None = ⊥
 AsksAt (Some event) = Asks event
 
 module _ {V : Type 0} (runs : Runner V) (limit : ℕ) (start : Board) (begun : V) where
-  -- A session ends at the limit, with the program, or at a wait that nothing ends.
+  -- A session ends at the limit, with the program or at its restart, where the hart is dead, or at
+  -- a wait that nothing ends.
   pub record EndedSession (input rest before after : Option (List ℕ))
       (steps : ℕ) (event : Option BoardEvent) (new : Board) (w : V) : Type 0 where
     pub made : ServedAndRun runs limit start begun input rest before after steps event new w
@@ -127,6 +137,9 @@ pub record GoesOn (event : BoardEvent) (old new : Board) (input rest before afte
 -- the end of the input was seen at a wait that input can end
 abbrev pub EndsBy : BoardEvent → Board → Bool → Type 0
 EndsBy (Finished status) b ended = Unit {0}
+EndsBy Spins b ended = Unit {0}
+EndsBy LacksHandler b ended = Unit {0}
+EndsBy Restarts b ended = Unit {0}
 EndsBy NothingWakes b ended = waits_for_input b.memory.devices ≡ true → ended ≡ true
 EndsBy event b ended = ⊥
 

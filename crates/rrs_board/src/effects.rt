@@ -1,11 +1,14 @@
 //! What the devices do between two steps.
 
-ghost use Rattle.std.specs.Prelude.{◌≡◌, ◌+◌, ◌/◌, ◌%◌, ◌^◌, ◌<◌, ◌≤◌, ◌==◌};
+ghost use Rattle.std.specs.Prelude.{◌≡◌, None, ◌+◌, ◌/◌, ◌%◌, ◌^◌, ◌<◌, ◌≤◌, ◌==◌};
 ghost use Rattle.rrs_board.specs.Clint.{can_wake};
-ghost use Rattle.rrs_board.specs.Finisher.{status_of};
-ghost use Rattle.rrs_board.specs.Effects.{inputs_of, shown_word, showing, transmits, finds_none, byte_at, uart_after, answered_access, answered, ended_with, access_event, ticked, waited, settled, event_after, arrived, waits_for_input};
+ghost use Rattle.rrs_board.specs.Finisher.{status_of, restarts};
+ghost use Rattle.rrs_lib.specs.Steps.{next_word};
+ghost use Rattle.rrs_machine.specs.MachineSteps.{MachineState};
+ghost use Rattle.rrs_board.specs.Effects.{inputs_of, shown_word, showing, transmits, finds_none, byte_at, uart_after, answered_access, answered, finisher_event, access_event, ticked, waited, settled, event_after, Tells, StandsInVain, arrived, waits_for_input};
 
 use crate::devices::{DeviceAccess, Devices, looked_at, wrote};
+use crate::memory::RAM_START;
 use crate::uart::Uart;
 use rrs_machine::{CsrFile, Inputs, MachineAnswer};
 
@@ -22,6 +25,12 @@ pub enum BoardEvent {
     Waits,
     /// A `wfi` waits, and no alarm can end that.
     NothingWakes,
+    /// The hart is dead: it jumps to itself, and takes no interrupt.
+    Spins,
+    /// The hart is dead: a trap went to a handler that can't be fetched.
+    LacksHandler,
+    /// The program asked that the board starts anew.
+    Restarts,
 }
 
 /// The address of the finisher.
@@ -48,6 +57,37 @@ fn status_of(word: u32) -> Option<u32>
         0x5555 => Some(0),
         0x3333 => Some(word / 0x1_0000),
         _ => None,
+    }
+}
+
+/// What the caller is told of a word for the finisher.
+fn finisher_event(word: u32) -> Option<BoardEvent>
+    ensures { result ≡ finisher_event word }
+{
+    if word % 0x1_0000 == 0x7777 {
+        return Some(BoardEvent::Restarts);
+    }
+    match status_of(word) {
+        Some(status) => Some(BoardEvent::Finished(status)),
+        None => None,
+    }
+}
+
+/// What the caller is told of a hart with these CSRs at a pc with this word, where no device has
+/// anything for him: that it is dead, or nothing.
+pub fn dead_event(csrs: &CsrFile, pc: u32, word: Option<u32>) -> Option<BoardEvent>
+    ensures told { (s : MachineState) → s.csrs ≡ csrs.now → s.hart.pc ≡ pc
+        → next_word s.hart ≡ word → Tells None result s }
+    ensures alive { (s : MachineState) → s.csrs ≡ csrs.now → s.hart.pc ≡ pc
+        → next_word s.hart ≡ word → result ≡ None → ¬ StandsInVain s }
+{
+    if !csrs.stands_still(pc, word) {
+        return None;
+    }
+    match word {
+        None => Some(BoardEvent::LacksHandler),
+        Some(_) if pc >= RAM_START => Some(BoardEvent::Spins),
+        Some(_) => None,
     }
 }
 
@@ -196,10 +236,7 @@ impl Devices {
         ensures { result ≡ access_event self.now }
     {
         if wrote(FINISHER, self.access) {
-            match status_of(self.finisher) {
-                Some(status) => Some(BoardEvent::Finished(status)),
-                None => None,
-            }
+            finisher_event(self.finisher)
         } else if self.transmits() {
             Some(BoardEvent::Transmitted(self.byte_at(0)))
         } else if self.finds_none() {

@@ -1,12 +1,17 @@
 //! What runs a board: runs of which nothing is kept, and runs of which each step is shown to a
 //! watcher.
 
-ghost use Rattle.std.specs.Prelude.{◌≡◌, ◌+◌, ◌^◌, ◌<◌};
+ghost use Rattle.std.specs.Prelude.{◌≡◌, None, ◌+◌, ◌^◌, ◌<◌};
+ghost use Rattle.rrs_lib.specs.Steps.{next_word};
+ghost use Rattle.rrs_board.specs.Effects.{Tells, StandsInVain};
+ghost use Rattle.rrs_board.specs.Boards.{machine_with};
 ghost use Rattle.rrs_board.specs.WatchedBoards.{takes_trap, IsRecorded, IsShown, watched_runs};
 
 use crate::board::{Board, BoardEnd, BoardStep};
+use crate::effects::{BoardEvent, dead_event};
 use rrs_lib::instruction_executor::InstructionExecutor;
 use rrs_machine::{MachineAnswer, MachineRetired, step_machine_retired};
+use rrs_memory::{MemAccessSize, Memory};
 
 /// What runs a board at a terminal: it makes the steps between two events.
 pub trait BoardRunner {
@@ -71,6 +76,38 @@ pub trait BoardWatcher {
 }
 
 impl Board {
+    /// The word that is about to be executed, if there is one. No device hears of it.
+    fn next_word(&mut self) -> Option<u32>
+        ensures word { result ≡ next_word (machine_with self.old self.old.memory).hart }
+        ensures kept { self.new ≡ self.old }
+    {
+        let pc = self.hart.pc;
+        if pc % 4 != 0 {
+            return None;
+        }
+        let devices = self.memory.devices;
+        let word = self.memory.read_mem(pc, MemAccessSize::Word);
+        self.memory.devices = devices;
+        word
+    }
+
+    /// What the caller is told after a step from this pc, where the devices have this event for
+    /// him: that, or that the hart is dead.
+    pub(crate) fn told_from(&mut self, pc: u32, event: Option<BoardEvent>) -> Option<BoardEvent>
+        ensures kept { self.new ≡ self.old }
+        ensures told { Tells event result (machine_with self.old self.old.memory) }
+        ensures alive { result ≡ None → self.old.hart.pc ≡ pc
+            → ¬ StandsInVain (machine_with self.old self.old.memory) }
+    {
+        match event {
+            None if self.hart.pc == pc => {
+                let word = self.next_word();
+                dead_event(&self.csrs, pc, word)
+            }
+            _ => event,
+        }
+    }
+
     /// Makes a step as [Board::step] does, and tells what the hart retired, with this number.
     /// `is_first` says that the step before took a trap.
     ///
@@ -78,6 +115,7 @@ impl Board {
     pub fn step_retired(&mut self, number: u64, is_first: bool) -> RecordedStep
         ensures recorded { IsRecorded number is_first self.old self.new result }
     {
+        let pc = self.hart.pc;
         let inputs = self.memory.devices.inputs();
         let mut executor = InstructionExecutor {
             mem: &mut self.memory,
@@ -91,6 +129,7 @@ impl Board {
             is_first,
         );
         let event = self.memory.devices.settle(answer, &self.csrs);
+        let event = self.told_from(pc, event);
         RecordedStep {
             step: BoardStep { answer, event },
             retired,

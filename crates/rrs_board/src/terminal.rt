@@ -122,7 +122,11 @@ fn serve<R: Read, W: Write>(
         BoardEvent::NothingWakes if board.memory.devices.waits_for_input() => {
             ask(board, asking, input, output)
         }
-        BoardEvent::NothingWakes | BoardEvent::Finished(_) => Ok(false),
+        BoardEvent::NothingWakes
+        | BoardEvent::Finished(_)
+        | BoardEvent::Spins
+        | BoardEvent::LacksHandler
+        | BoardEvent::Restarts => Ok(false),
     }
 }
 

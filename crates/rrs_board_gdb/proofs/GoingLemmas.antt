@@ -61,7 +61,7 @@ ends_at stops limit n steps d m t before printed event (Reason.Finished status) 
       within = within;
       prints = prints;
     }
-ends_at stops limit n steps d m t before printed event Reason.NothingWakes passing last ends counted within prints =
+ends_at stops limit n steps d m t before printed event (Reason.Stuck signal) passing last ends counted within prints =
     record {
       quiet = n;
       mid = m;
@@ -167,7 +167,7 @@ leg_ends stops limit a b leg d m t p q (Reason.Finished status) other within fir
   within = omega (arith, goes.within);
   prints = ap (λ (xs : List ℕ). p ++ xs) goes.prints ∙ sym (append_assoc p goes.before (printed_by goes.event));
 }
-leg_ends stops limit a b leg d m t p q Reason.NothingWakes other within first goes = record {
+leg_ends stops limit a b leg d m t p q (Reason.Stuck signal) other within first goes = record {
   quiet = goes.quiet + a;
   mid = goes.mid;
   before = p ++ goes.before;

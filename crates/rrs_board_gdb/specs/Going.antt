@@ -50,10 +50,14 @@ abbrev pub printed_by : Option BoardEvent → List ℕ
 printed_by (Some (Event.Transmitted byte)) = byte ∷ []
 printed_by _ = []
 
--- why a program ends, if it does
+-- Why a program ends, if it does, or goes no further: by gdb's numbers of the signals, SIGSTOP is
+-- 17, SIGTRAP 5 and SIGILL 4.
 abbrev pub ending : Option BoardEvent → Option GoReason
 ending (Some (Event.Finished status)) = Some (Reason.Finished status)
-ending (Some Event.NothingWakes) = Some Reason.NothingWakes
+ending (Some Event.Restarts) = Some (Reason.Finished 0)
+ending (Some Event.NothingWakes) = Some (Reason.Stuck 17)
+ending (Some Event.Spins) = Some (Reason.Stuck 5)
+ending (Some Event.LacksHandler) = Some (Reason.Stuck 4)
 ending _ = None
 
 -- ---- steps

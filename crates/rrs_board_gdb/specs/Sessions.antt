@@ -107,14 +107,14 @@ IsStep action = ((letter action ≡ 115) × (length action ≡ 1)) ⊎ (letter a
 abbrev pub IsContinue : List ℕ → Type 0
 IsContinue action = ((letter action ≡ 99) × (length action ≡ 1)) ⊎ (letter action ≡ 67)
 
--- Where a program stopped, by gdb's numbers of the signals: SIGTRAP is 5, SIGINT 2 and SIGSTOP 17.
--- The limit of a step is that it is one.
+-- Where a program stopped, by gdb's numbers of the signals: SIGTRAP is 5 and SIGINT 2. The limit of
+-- a step is that it is one.
 abbrev pub stop_of : Bool → GoReason → BoardStop
 stop_of is_step Reason.AtStop = Signal 5
 stop_of true Reason.Limit = Signal 5
 stop_of false Reason.Limit = Signal 2
 stop_of is_step (Reason.Finished status) = Exited (status % 256)
-stop_of is_step Reason.NothingWakes = Signal 17
+stop_of is_step (Reason.Stuck signal) = Signal signal
 
 abbrev pub stop_text : BoardStop → List ℕ
 stop_text (Signal signal) = codes "S" ++ digits_of signal

@@ -11,6 +11,13 @@ use rrs_gdb::{Link, LinkError};
 use std::alloc::AllocError;
 use std::io::{Read, Write};
 
+/// gdb's number of `SIGILL`: a trap whose handler can't be fetched.
+const ILLEGAL: u8 = 4;
+/// gdb's number of `SIGTRAP`: a jump to itself where no interrupt can be taken.
+const TRAPPED: u8 = 5;
+/// gdb's number of `SIGSTOP`: a `wfi` that nothing wakes.
+const STOPPED: u8 = 17;
+
 /// The most steps that are made before output is sent.
 const LEG: u64 = 1_000_000;
 
@@ -36,8 +43,8 @@ pub enum GoReason {
     Limit,
     /// The program ended with this status.
     Finished(u32),
-    /// A `wfi` waits, and nothing on the board can wake it.
-    NothingWakes,
+    /// The program does nothing any more: it waits, or the hart is dead. gdb is told this signal.
+    Stuck(u8),
 }
 
 /// How a board that went on ended.
@@ -118,7 +125,10 @@ impl<'a> DebuggedBoard<'a> {
     {
         match event {
             Some(BoardEvent::Finished(status)) => return Some(GoReason::Finished(status)),
-            Some(BoardEvent::NothingWakes) => return Some(GoReason::NothingWakes),
+            Some(BoardEvent::Restarts) => return Some(GoReason::Finished(0)),
+            Some(BoardEvent::NothingWakes) => return Some(GoReason::Stuck(STOPPED)),
+            Some(BoardEvent::Spins) => return Some(GoReason::Stuck(TRAPPED)),
+            Some(BoardEvent::LacksHandler) => return Some(GoReason::Stuck(ILLEGAL)),
             _ => {}
         }
         if stops.contains(&self.board.hart.pc) {

@@ -35,8 +35,6 @@ const SUPPORTED: &[u8] = b"PacketSize=4000;QStartNoAckMode+;qXfer:features:read+
 const INTERRUPTED: u8 = 2;
 /// gdb's number of the signal of a breakpoint, and of a step.
 const TRAPPED: u8 = 5;
-/// gdb's number of `SIGSTOP`: a `wfi` that nothing wakes.
-const STOPPED: u8 = 17;
 
 /// Where a program stopped, as gdb is told.
 #[derive(Clone, Copy, Debug, PartialEq)]
@@ -289,7 +287,7 @@ fn stop_of(reason: GoReason, is_step: bool) -> BoardStop
         GoReason::Limit if is_step => BoardStop::Signal(TRAPPED),
         GoReason::Limit => BoardStop::Signal(INTERRUPTED),
         GoReason::Finished(status) => BoardStop::Exited((status % 256) as u8),
-        GoReason::NothingWakes => BoardStop::Signal(STOPPED),
+        GoReason::Stuck(signal) => BoardStop::Signal(signal),
     }
 }
 

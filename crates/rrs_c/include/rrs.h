@@ -486,7 +486,10 @@ enum rrs_board_event {
     RRS_BOARD_LOOKED = 2,       /* It looked at LSR or IIR, and the UART held no byte. */
     RRS_BOARD_FINISHED = 3,     /* It ended by the finisher. The value is its status. */
     RRS_BOARD_WAITS = 4,        /* A wfi waits for the alarm, and the time went forward to it. */
-    RRS_BOARD_NOTHING_WAKES = 5 /* A wfi waits, and no alarm can end that. */
+    RRS_BOARD_NOTHING_WAKES = 5, /* A wfi waits, and no alarm can end that. */
+    RRS_BOARD_SPINS = 6,        /* The hart is dead: it jumps to itself, and takes no interrupt. */
+    RRS_BOARD_LACKS_HANDLER = 7, /* It is dead: a trap went to a handler that can't be fetched. */
+    RRS_BOARD_RESTARTS = 8      /* The program asked that the board starts anew. */
 };
 
 typedef struct rrs_board_end {

@@ -15,9 +15,9 @@ use Rattle.rrs_machine.specs.MachineSteps.{MachineState, machine_of, MachineStep
 use Rattle.rrs_board.specs.declared.uart.Uart.{Uart}
 use Rattle.rrs_board.specs.declared.devices.Devices.{Devices}
 use Rattle.rrs_board.specs.declared.effects.BoardEvent.{BoardEvent}
-use Rattle.rrs_board.specs.declared.effects.BoardEvent.TheVariants.{Transmitted, Looked, Finished, Waits, NothingWakes}
+use Rattle.rrs_board.specs.declared.effects.BoardEvent.TheVariants.{Transmitted, Looked, Finished, Waits, NothingWakes, Spins, LacksHandler, Restarts}
 use Rattle.rrs_board.specs.Registers.{device_bytes, device_writable, device_reads, DeviceWrites, ram_start}
-use Rattle.rrs_board.specs.Effects.{inputs_of, settled, event_after, reset_devices, showing}
+use Rattle.rrs_board.specs.Effects.{inputs_of, settled, event_after, Tells, reset_devices, showing}
 use Rattle.rrs_board.specs.WatchedBoards.{takes_trap}
 use Rattle.rrs_c.specs.declared.board.RrsUart.{RrsUart}
 use Rattle.rrs_c.specs.declared.board.RrsBoard.{RrsBoard}
@@ -124,7 +124,7 @@ pub record LentStepped (old new : LentState) (answer : MachineAnswer) (event : O
       old.memory between
   pub words : new.memory.words ≡ between.words
   pub devices : new.memory.devices ≡ settled answer new.csrs between.devices
-  pub told : event ≡ event_after answer new.csrs between.devices
+  pub told : Tells (event_after answer new.csrs between.devices) event (lent_machine new new.memory)
   pub trapped : new.trapped ≡ takes_trap answer
 
 -- so many steps, of which the caller is told nothing
@@ -151,15 +151,18 @@ event_at event value =
     (if event == 2 then Some Looked else
     (if event == 3 then Some (Finished value) else
     (if event == 4 then Some Waits else
-    (if event == 5 then Some NothingWakes else None))))
+    (if event == 5 then Some NothingWakes else
+    (if event == 6 then Some Spins else
+    (if event == 7 then Some LacksHandler else
+    (if event == 8 then Some Restarts else None)))))))
 
 abbrev pub event_in : RrsBoardEnd → Option BoardEvent
 event_in e = event_at e.event e.value
 
--- How an end is written: events go up to 5, the value of a byte is one, and the value is 0 where
+-- How an end is written: events go up to 8, the value of a byte is one, and the value is 0 where
 -- none is told.
 pub record IsBoardEnd (e : RrsBoardEnd) : Type 0 where
-  pub event : e.event < 6
+  pub event : e.event < 9
   pub byte : e.event ≡ 1 → e.value < 256
   pub value : e.event ≢ 1 → e.event ≢ 3 → e.value ≡ 0
 

@@ -65,7 +65,9 @@ pub struct RrsBoardEnd {
     pub steps: u64,
     /// What the last step has for the caller. 0: nothing, the limit was reached, 1: a byte was
     /// transmitted, 2: a look at LSR or IIR found no byte, 3: the program ended, 4: a `wfi` waits
-    /// for the alarm, and time went forward to it, 5: a `wfi` waits, and nothing wakes it.
+    /// for the alarm, and time went forward to it, 5: a `wfi` waits, and nothing wakes it, 6: the
+    /// hart jumps to itself, and takes no interrupt, 7: a trap went to a handler that can't be
+    /// fetched, 8: the program asked that the board starts anew.
     pub event: u32,
     /// The byte that was transmitted, or the status of the program's end, else 0.
     pub value: u32,
@@ -204,6 +206,9 @@ pub(crate) fn board_end_of(steps: u64, event: Option<BoardEvent>) -> RrsBoardEnd
         Some(BoardEvent::Finished(status)) => (3, status),
         Some(BoardEvent::Waits) => (4, 0),
         Some(BoardEvent::NothingWakes) => (5, 0),
+        Some(BoardEvent::Spins) => (6, 0),
+        Some(BoardEvent::LacksHandler) => (7, 0),
+        Some(BoardEvent::Restarts) => (8, 0),
     };
     RrsBoardEnd {
         steps,

@@ -3,10 +3,11 @@
 ghost use Rattle.std.specs.Prelude.{◌≡◌, ◌%◌, ◌<◌, ◌≤◌, slice_index};
 ghost use Rattle.rrs_lib.specs.Bytes.{width, little_endian, all_writable};
 ghost use Rattle.rrs_lib.specs.SliceBytes.{bytes_from, lies_from};
-ghost use Rattle.rrs_lib.specs.Steps.{LastIsRegister};
+ghost use Rattle.rrs_lib.specs.Steps.{next_word, LastIsRegister};
 ghost use Rattle.rrs_lib.specs.Accesses.{MakesExactly};
 ghost use Rattle.rrs_machine.specs.MachineSteps.{MachineStep, AccessesOfMachineStep};
 ghost use Rattle.rrs_board.specs.Registers.{ram_start};
+ghost use Rattle.rrs_board.specs.Effects.{Tells};
 ghost use Rattle.rrs_c.specs.Boards.{LentRam, board_in_c, devices_in, WritesWords, LentStepped, LentRun};
 ghost use Rattle.rrs_c.specs.LentBoards.{seen_with, seen, MemoryReads, MemoryWrites, machine_over, AreSettled};
 
@@ -14,9 +15,10 @@ use crate::board::{RrsBoard, put_devices};
 use crate::hart::{close, opened};
 use crate::machine::{csrs_of, file_of};
 use crate::retired::flag;
+use rrs_board::effects::dead_event;
 use rrs_board::memory::RAM_START;
 use rrs_board::runs::takes_trap;
-use rrs_board::{BoardEnd, BoardStep, Devices};
+use rrs_board::{BoardEnd, BoardEvent, BoardStep, Devices};
 use rrs_lib::instruction_executor::InstructionExecutor;
 use rrs_lib::memories::SliceMemory;
 use rrs_lib::{HartState, MemAccessSize, Memory};
@@ -121,6 +123,45 @@ fn step_over<'a>(
     step_machine(&mut executor, csrs, inputs)
 }
 
+/// The word that a hart is about to execute, if there is one. No device hears of it.
+fn next_word<'a>(mem: &mut LentMemory<'a>, hart: &BoardHart) -> Option<u32>
+    ensures word { result ≡ next_word (machine_over hart.now.state hart.now.csrs mem.old).hart }
+    ensures words { mem.new.words.now ≡ mem.old.words.now }
+    ensures same_words { mem.new.words.ghost_name ≡ mem.old.words.ghost_name }
+    ensures devices { mem.new.devices ≡ mem.old.devices }
+{
+    let pc = hart.state.pc;
+    if pc % 4 != 0 {
+        return None;
+    }
+    let devices = mem.devices;
+    let word = mem.read_mem(pc, MemAccessSize::Word);
+    mem.devices = devices;
+    word
+}
+
+/// What the caller is told after a step from this pc, where the devices have this event for him:
+/// that, or that the hart is dead.
+fn told_from<'a>(
+    mem: &mut LentMemory<'a>,
+    hart: &BoardHart,
+    pc: u32,
+    event: Option<BoardEvent>,
+) -> Option<BoardEvent>
+    ensures words { mem.new.words.now ≡ mem.old.words.now }
+    ensures same_words { mem.new.words.ghost_name ≡ mem.old.words.ghost_name }
+    ensures devices { mem.new.devices ≡ mem.old.devices }
+    ensures told { Tells event result (machine_over hart.now.state hart.now.csrs mem.old) }
+{
+    match event {
+        None if hart.state.pc == pc => {
+            let word = next_word(mem, hart);
+            dead_event(&hart.csrs, pc, word)
+        }
+        _ => event,
+    }
+}
+
 /// Makes a step of a board: the hart makes its own, and the devices answer to what it did.
 #[inline(always)]
 fn step_board<'a>(mem: &mut LentMemory<'a>, hart: &mut BoardHart) -> BoardStep
@@ -133,10 +174,12 @@ fn step_board<'a>(mem: &mut LentMemory<'a>, hart: &mut BoardHart) -> BoardStep
     ensures entry_zero { slice_index hart.new.state.registers 0
         ≡ slice_index hart.old.state.registers 0 }
 {
+    let pc = hart.state.pc;
     let inputs = mem.devices.inputs();
     let answer = step_over(mem, &mut hart.state, &mut hart.csrs, &inputs);
     hart.trapped = takes_trap(answer);
     let event = mem.devices.settle(answer, &hart.csrs);
+    let event = told_from(mem, hart, pc, event);
     BoardStep { answer, event }
 }
 

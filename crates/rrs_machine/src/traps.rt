@@ -295,8 +295,8 @@ impl CsrFile {
         }
     }
 
-    /// Whether a hart with these CSRs stands still at a pc with this word, or none: no interrupt can
-    /// be taken, and the instruction leads back to it.
+    /// Whether a hart with these CSRs stands still at a pc with this word, or none: no interrupt
+    /// can be taken, and the instruction leads back to it.
     ///
     /// The clauses: it is so exactly then (`stands`, `moves`), and such a hart is dead (`dead`).
     pub fn stands_still(&self, pc: u32, word: Option<u32>) -> bool

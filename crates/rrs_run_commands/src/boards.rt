@@ -13,7 +13,7 @@ use rrs_fast::Ending;
 use std::io::{Read, Write};
 use std::rt::Files;
 
-/// The status where a `wfi` waits and nothing can wake it.
+/// The status where a `wfi` waits and nothing can wake it, and where the hart is dead.
 const NOTHING_WAKES: u32 = 126;
 
 /// The refusal of firmware for a board with so many bytes of RAM.
@@ -135,8 +135,9 @@ pub(crate) fn board_with<'a, H: Files + AllocGlobal>(
     }
 }
 
-/// How the run ended. A `wfi` that nothing wakes is told on standard error, after the name of the
-/// program: where it is, and after how many steps.
+/// How the run ended. A `wfi` that nothing wakes and a hart that is dead are told on standard
+/// error, after the name of the program: where it is, and of a `wfi` after how many steps. At a
+/// restart the status is 0.
 pub(crate) fn ending_of<H: Eprint>(rt: &H, name: &str, board: &Board, end: BoardEnd) -> Ending {
     match end.event {
         Some(BoardEvent::Finished(status)) => Ending::Exit(status),
@@ -147,6 +148,21 @@ pub(crate) fn ending_of<H: Eprint>(rt: &H, name: &str, board: &Board, end: Board
             );
             Ending::Exit(NOTHING_WAKES)
         }
+        Some(BoardEvent::Spins) => {
+            let pc = board.hart.pc;
+            let _ = eprintln!(rt;
+                "{name}: the jump to itself at pc 0x{pc:08x} never ends: no interrupt can be taken"
+            );
+            Ending::Exit(NOTHING_WAKES)
+        }
+        Some(BoardEvent::LacksHandler) => {
+            let pc = board.hart.pc;
+            let _ = eprintln!(rt;
+                "{name}: a trap went to 0x{pc:08x}, where mtvec points, and no memory is there"
+            );
+            Ending::Exit(NOTHING_WAKES)
+        }
+        Some(BoardEvent::Restarts) => Ending::Exit(0),
         _ => Ending::Limit,
     }
 }
@@ -180,19 +196,26 @@ pub fn run_board<'a, H: Files + Eprint + AllocGlobal, R: Read, W: Write>(
     input: &mut R,
     output: &mut W,
 ) -> Result<Ending, Refusal<'a>> {
-    let mut board = board_of(rt, request)?;
+    let file = read_program(rt, request.path())?;
     let (mut input, mut output) = (Noting::new(input), Noting::new(output));
-    let (limit, is_polled) = (request.limit, request.is_polled);
-    let run = run_at_terminal(
-        &mut PlainRuns,
-        &mut board,
-        limit,
-        is_polled,
-        &mut input,
-        &mut output,
-    );
-    match run {
-        Ok(end) => Ok(ending_of(rt, "rrs board", &board, end)),
-        Err(error) => Err(stopped(error, input.fault, output.fault)),
+    let mut left = request.limit;
+    for _ in 0..u64::MAX {
+        let mut board = board_with(rt, request, &file)?;
+        let run = run_at_terminal(
+            &mut PlainRuns,
+            &mut board,
+            left,
+            request.is_polled,
+            &mut input,
+            &mut output,
+        );
+        match run {
+            Ok(end) if end.event == Some(BoardEvent::Restarts) => {
+                left = left.saturating_sub(end.steps);
+            }
+            Ok(end) => return Ok(ending_of(rt, "rrs board", &board, end)),
+            Err(error) => return Err(stopped(error, input.fault, output.fault)),
+        }
     }
+    Ok(Ending::Limit)
 }

@@ -3,12 +3,13 @@
 use crate::packets::wanted;
 use rrs_board::memory::Ram;
 use rrs_board::{
-    Board, BoardEnd, BoardError, BoardEvent, PlainRuns, TerminalError, run_at_terminal,
+    Board, BoardEnd, BoardError, BoardEvent, PlainRuns, Profile, TerminalError, run_at_terminal,
 };
 use rrs_board_gdb::{BoardSession, serve};
 use rrs_elf::ElfError;
 use rrs_gdb::{Link, LinkError, encode};
 use rrs_lib::{MemAccessSize, Memory};
+use rrs_machine::Mode;
 use std::alloc::{AllocError, Global};
 use std::test::Fail;
 
@@ -180,8 +181,11 @@ const PACKETS: [(&str, &str); 63] = [
         "|+||+||+|",
     ),
     ("Z5,80000050,4|Z0,x,4|Z0", "E16|+|E16|+|E16"),
-    ("P20=68000080|c|p20", "OK|+|S02|+|68000080"),
-    ("P20=58000080|c|p20|c", "OK|+|S11|+|5c000080|+|S02"),
+    ("P20=68000080|c|p20|s", "OK|+|S05|+|68000080|+|S05"),
+    (
+        "P20=58000080|c|p20|c|p20|c",
+        "OK|+|S11|+|5c000080|+|S04|+|00000000|+|S04",
+    ),
     (
         "P345=08000000|P341=08000000|P346=44000080|P7=00000002|P8=01000000|P20=3c000080|s|p20|p385",
         "OK|+|OK|+|OK|+|OK|+|OK|+|OK|+|S05|+|40000080|+|08000000",
@@ -418,6 +422,121 @@ fn a_board_runs_at_a_terminal(rt: HostRuntime) -> Result<(), Fail> {
             Ok(Some(BoardEvent::NothingWakes)),
             b"AxA".as_slice(),
         )
+    );
+    Ok(())
+}
+
+/// How such a board goes on at a pc with this `mstatus`, this `mie` and this `mtvec`.
+fn end_with(
+    alloc: Global,
+    pc: u32,
+    [mstatus, mie, mtvec]: [u32; 3],
+    mode: Mode,
+) -> Result<Option<BoardEvent>, AllocError> {
+    let mut board = firmware_at(alloc, pc)?;
+    board.set_profile(Profile {
+        user_mode: true,
+        atomics: false,
+    });
+    board.csrs.mstatus = mstatus;
+    board.csrs.mie = mie;
+    board.csrs.mtvec = mtvec;
+    board.csrs.mode = mode;
+    board.hart.registers[1] = 0x8000_0050;
+    Ok(board.run(100_000).event)
+}
+
+/// A jump to itself is the last word of RAM, at 0x80000068, and MIE is 8. The others: a trap to
+/// where nothing is, a handler that jumps to itself, and two words that go round.
+const ENDS: [(u32, [u32; 3], Mode, Option<BoardEvent>); 14] = [
+    (
+        0x8000_0068,
+        [0, 0, 0],
+        Mode::Machine,
+        Some(BoardEvent::Spins),
+    ),
+    (
+        0x8000_0068,
+        [0, 0x888, 0],
+        Mode::Machine,
+        Some(BoardEvent::Spins),
+    ),
+    (
+        0x8000_0068,
+        [8, 0, 0],
+        Mode::Machine,
+        Some(BoardEvent::Spins),
+    ),
+    (
+        0x8000_0068,
+        [8, 0x777, 0],
+        Mode::Machine,
+        Some(BoardEvent::Spins),
+    ),
+    (0x8000_0068, [8, 0x80, 0], Mode::Machine, None),
+    (0x8000_0068, [8, 0x08, 0], Mode::Machine, None),
+    (0x8000_0068, [8, 0x800, 0], Mode::Machine, None),
+    (0x8000_0068, [0, 0, 0], Mode::User, Some(BoardEvent::Spins)),
+    (0x8000_0068, [0, 0x80, 0], Mode::User, None),
+    (
+        0x8000_006c,
+        [8, 0x80, 0],
+        Mode::Machine,
+        Some(BoardEvent::LacksHandler),
+    ),
+    (
+        0x8000_006c,
+        [0, 0x80, 1],
+        Mode::User,
+        Some(BoardEvent::LacksHandler),
+    ),
+    (
+        0,
+        [8, 0, 0x7fff_fffc],
+        Mode::Machine,
+        Some(BoardEvent::LacksHandler),
+    ),
+    (
+        0x8000_0054,
+        [8, 0x80, 0x8000_0068],
+        Mode::Machine,
+        Some(BoardEvent::Spins),
+    ),
+    (0x8000_0060, [0, 0, 0], Mode::Machine, None),
+];
+
+#[test]
+fn a_hart_that_is_dead_is_told(rt: HostRuntime) -> Result<(), Fail> {
+    let alloc = rt.alloc();
+    let mut wrong = Vec::new(alloc);
+    for (index, &(pc, csrs, mode, event)) in ENDS.iter().enumerate() {
+        if end_with(alloc, pc, csrs, mode)? != event {
+            wrong.push(index)?;
+        }
+    }
+    assert_eq!(rt; wrong.as_slice(), [].as_slice());
+    Ok(())
+}
+
+#[test]
+fn the_finisher_ends_and_restarts(rt: HostRuntime) -> Result<(), Fail> {
+    let alloc = rt.alloc();
+    let mut events = Vec::new(alloc);
+    for word in [0x5555, 0x0007_3333, 0x0001_7777, 0x7776] {
+        let mut board = firmware_at(alloc, 0x8000_003c)?;
+        board.hart.registers[7] = 0x0010_0000;
+        board.hart.registers[8] = word;
+        events.push(board.run(1).event)?;
+    }
+    assert_eq!(rt;
+        events.as_slice(),
+        [
+            Some(BoardEvent::Finished(0)),
+            Some(BoardEvent::Finished(7)),
+            Some(BoardEvent::Restarts),
+            None,
+        ]
+        .as_slice()
     );
     Ok(())
 }

@@ -1,4 +1,4 @@
-# a shell on the UART that gets a file, its traps and its status; a limit, and a wfi that nothing wakes
+# a shell on the UART that gets a file, its traps and its status; a limit, a wfi that nothing wakes, and two harts that are dead
 target remote | ./rrs gdb --board --input shell.input shell.elf
 break main
 continue
@@ -28,4 +28,18 @@ info registers pc mie
 x/i $pc - 4
 x/xb 0x8000ffff
 x/xb 0x80010000
+kill
+file spins.elf
+target remote | ./rrs gdb --board spins.elf
+continue
+info registers mie
+x/i $pc
+continue
+x/i $pc
+kill
+file astray.elf
+target remote | ./rrs gdb --board astray.elf
+continue
+info registers pc mepc mcause
+continue
 kill

@@ -1,11 +1,14 @@
--- The hart's step is over the memory, and then the devices settle.
-use Rattle.std.proofs.Common.{◌≡◌, subst, refl}
+-- The hart's step is over the memory, then the devices settle, and what is told leaves the board.
+use Rattle.std.proofs.Common.{◌≡◌, sym, subst, refl}
 use Rattle.rrs_lib.specs.Accesses.{MakesExactly}
 use Rattle.rrs_machine.specs.MachineSteps.{machine_of, MachineStep, AccessesOfMachineStep}
 use Rattle.rrs_machine.specs.MachineRecords.{MachineRetires}
+use Rattle.rrs_board.specs.declared.board.Board.{Board}
+use Rattle.rrs_board.specs.declared.runs.RecordedStep.{RecordedStep}
 use Rattle.rrs_board.specs.Registers.{board_bytes, board_writable, BoardReads, BoardWrites}
 use Rattle.rrs_board.specs.Boards.{machine_with}
-use Rattle.rrs_board.specs.Effects.{inputs_of}
+use Rattle.rrs_board.specs.Effects.{inputs_of, Tells}
+use Rattle.rrs_board.specs.WatchedBoards.{IsRecorded}
 use Rattle.rrs_board.proofs.board.Board.step_retired.Goals as goal
 
 pub returns : goal.returns
@@ -16,8 +19,19 @@ returns c =
     let s = machine_with old old.memory in
     let t = machine_of made.new.executor.hart_state.now made.new.csrs (board_bytes between) (board_writable between) in
     let told : c.inputs-inputs.result ≡ inputs_of old.memory.devices = c.inputs-inputs.ensures in
+    let event = c.told_from-event.result in
+    let after : Board = record {
+      hart = made.new.executor.hart_state.now;
+      csrs = made.new.csrs;
+      memory = record between { devices = c.settle-event.new.self };
+    } in
+    let kept : c.told_from-event.new.self ≡ after = c.told_from-event.ensures.kept in
+    let shown : RecordedStep = record {
+      step = record { answer = made.result.0; event = event };
+      retired = made.result.1;
+    } in
     record {
-      recorded = record {
+      recorded = subst (λ b. IsRecorded c.args.number c.args.is_first old b shown) (sym kept) (record {
         stepped = record {
           between = between;
           step = subst (λ i. MachineStep i s t made.result.0) told made.ensures.step;
@@ -25,9 +39,10 @@ returns c =
               made.ensures.accesses;
           ram = refl;
           devices = c.settle-event.ensures.devices;
-          told = c.settle-event.ensures.event;
+          told = subst (λ e. Tells e event (machine_with after after.memory)) c.settle-event.ensures.event
+              c.told_from-event.ensures.told;
         };
         retires = subst (λ i. MachineRetires c.args.number c.args.is_first i s t made.result.0 made.result.1) told
             made.ensures.retires;
-      };
+      });
     }

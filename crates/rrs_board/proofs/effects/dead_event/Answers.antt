@@ -1,0 +1,11 @@
+-- A hart that stands still in RAM is dead.
+use Rattle.std.proofs.Common.{◌≤◌, inr, refl, ◌∙◌, arith}
+use Rattle.std.proofs.lemmas.Bool.{OnTrue_at}
+use Rattle.rrs_board.specs.Registers.{ram_start}
+use Rattle.rrs_board.proofs.effects.dead_event.Goals as goal
+
+pub returns-in-Some-clause-told : goal.returns-in-Some-clause-told
+returns-in-Some-clause-told c = λ s csrs at next.
+    let in_ram : ram_start ≤ s.hart.pc = omega (arith, at, c.if-pc-ge-RAM_START.true) in
+    let dead = OnTrue_at c.if-not-stands_still.false c.stands_still.ensures.dead in
+    inr (refl, (dead s csrs at next, in_ram, (c.in-Some.field-0, next ∙ c.in-Some.is)))
