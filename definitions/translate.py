@@ -519,6 +519,12 @@ class Translation:
                                + ": " * (key in LEFT_OUT) + LEFT_OUT.get(".".join(key), ""))
         return self.sources[key].module, key
 
+    def modules_below(self, key):
+        """The modules that a file imports from."""
+        source = self.sources[key]
+        return {self.module_of(source, number, crate, path)[0]
+                for number, _, crate, path, _ in self.imports(source)}
+
     def order(self):
         """The files, each after those that it uses."""
         done = []
@@ -563,6 +569,7 @@ class FileText:
         self.all, self.source = translation, source
         datas, primed = set(source.datas), set()
         self.records = {}       # module -> records that are imported from it
+        self.behind = set()     # the modules that those import from
         for number, _, crate, path, names in translation.imports(source):
             module, key = translation.module_of(source, number, crate, path)
             if module == "Prelude":
@@ -570,6 +577,7 @@ class FileText:
             self.records.setdefault(module, set()).update(names)
             if path[0] != "declared":
                 datas |= translation.sources[key].datas & set(names)
+                self.behind |= translation.modules_below(key)
             elif path[-1] == "TheVariants":
                 primed |= translation.declared[key[0]].clashes() & set(names)
             else:
@@ -589,9 +597,11 @@ class FileText:
 
     def fields(self):
         """The fields that a file selects or sets come from the modules that it imports from. A
-        field of a record that it does not name is one of a type of the code."""
+        field of a record that it does not name is one of a type of the code, or, where the file
+        selects it, comes from the modules that those import from."""
         used = set(re.findall(r"\.([a-z][\w']*)|\b([a-z][\w']*) =(?!=)", re.sub(
             r"--[^\n]*", "", self.source.text)))
+        selected = {a for a, _ in used}
         used = {a or b for a, b in used}
         groups = {d.module: d.fields for d in self.all.declared.values()}
         groups |= {s.module: s.fields for s in self.all.sources.values() if s is not self.source}
@@ -601,7 +611,8 @@ class FileText:
             having = [m for m, records in groups.items()
                       if any(name in fs for fs in records.values())]
             named = [m for m in having if m == "Prelude" or m in self.records]
-            named = named or [m for m in having if m.endswith(".Declared")]
+            named = named or [m for m in having if m.endswith(".Declared")
+                              or name in selected and m in self.behind]
             for module in dict.fromkeys(named):
                 wanted.setdefault(module, []).append(field_name(name))
         return [f"open import {m} using ({'; '.join(f)})" for m, f in wanted.items()]
