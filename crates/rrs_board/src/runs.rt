@@ -111,9 +111,12 @@ impl Board {
     /// Makes a step as [Board::step] does, and tells what the hart retired, with this number.
     /// `is_first` says that the step before took a trap.
     ///
-    /// The clause: what is told is what this step did and retired (`recorded`).
+    /// The clauses: what is told is what this step did and retired (`recorded`); where the caller
+    /// is told nothing, the hart does not stand still where it stood (`alive`).
     pub fn step_retired(&mut self, number: u64, is_first: bool) -> RecordedStep
         ensures recorded { IsRecorded number is_first self.old self.new result }
+        ensures alive { result.step.event ≡ None → self.new.hart.pc ≡ self.old.hart.pc
+            → ¬ StandsInVain (machine_with self.new self.new.memory) }
     {
         let pc = self.hart.pc;
         let inputs = self.memory.devices.inputs();

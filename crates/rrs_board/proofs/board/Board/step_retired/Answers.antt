@@ -1,5 +1,5 @@
 -- The hart's step is over the memory, then the devices settle, and what is told leaves the board.
-use Rattle.std.proofs.Common.{◌≡◌, sym, subst, refl}
+use Rattle.std.proofs.Common.{◌≡◌, None, sym, subst, refl}
 use Rattle.rrs_lib.specs.Accesses.{MakesExactly}
 use Rattle.rrs_machine.specs.MachineSteps.{machine_of, MachineStep, AccessesOfMachineStep}
 use Rattle.rrs_machine.specs.MachineRecords.{MachineRetires}
@@ -7,7 +7,7 @@ use Rattle.rrs_board.specs.declared.board.Board.{Board}
 use Rattle.rrs_board.specs.declared.runs.RecordedStep.{RecordedStep}
 use Rattle.rrs_board.specs.Registers.{board_bytes, board_writable, BoardReads, BoardWrites}
 use Rattle.rrs_board.specs.Boards.{machine_with}
-use Rattle.rrs_board.specs.Effects.{inputs_of, Tells}
+use Rattle.rrs_board.specs.Effects.{inputs_of, Tells, StandsInVain}
 use Rattle.rrs_board.specs.WatchedBoards.{IsRecorded}
 use Rattle.rrs_board.proofs.board.Board.step_retired.Goals as goal
 
@@ -45,4 +45,7 @@ returns c =
         retires = subst (λ i. MachineRetires c.args.number c.args.is_first i s t made.result.0 made.result.1) told
             made.ensures.retires;
       });
+      alive = subst (λ (b : Board). event ≡ None → b.hart.pc ≡ old.hart.pc
+          → ¬ StandsInVain (machine_with b b.memory)) (sym kept)
+          c.told_from-event.ensures.alive;
     }
