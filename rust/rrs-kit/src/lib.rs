@@ -74,7 +74,7 @@ pub mod linux {
     pub mod process {
         pub use rrs_exec::{
             Image, ImageError, Layout, PAGE_BYTES, PageRange, ProgramHeaders, ProtectedMemory,
-            Protection, fill, image_of, initial_stack, layout_of, marks_of, stack_pointer,
+            Protection, image_of, initial_stack, layout_of, marks_of, stack_pointer,
         };
     }
 }
