@@ -151,7 +151,7 @@ function memories(report, page, kit) {
   report.same("with less room than there is, and with it", [null, "1300000013000000", false, true], [
     page.assemble(long, 0, kit, 1 << 16), made(page, kit, "nop\nnop"), kit.assembler === assembler,
     page.assemble(long, 0, kit, 1 << 26) !== null]);
-  const repeated = `.rept 100000\n${"nop\n".repeat(75)}.endr`;
+  const repeated = `.rept 50000\n${"nop\n".repeat(75)}.endr`;
   report.same("with less than is needed", "There is not enough memory to assemble it.",
     Report.refused(() => page.parseAssembly(repeated, 0, 65536, kit, page.ROOM_LIVE)));
   report.same("where memory does not grow", null, kit.assemble.call({ assembler: { assemble() {
