@@ -678,8 +678,8 @@ pub extern "C" fn rrs_elf_segment(file: &[u8], index: u32) -> RrsSegment
     segment_of(file, index)
 }
 
-/// Loads an executable into words from a base on: of each segment, at its virtual address, the bytes
-/// of the file, and then zeros. It ends at the first address that is not in the words.
+/// Loads an executable into words from a base on: of each segment, at its virtual address, the
+/// bytes of the file, and then zeros. It ends at the first address that is not in the words.
 #[unsafe(no_mangle)]
 pub extern "C" fn rrs_elf_load(file: &[u8], words: &mut [u32], base: u32) -> RrsLoaded
     ensures { LoadsElf Addresses.Virtual file.now words.old words.new base result }
