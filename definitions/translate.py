@@ -24,7 +24,7 @@ CRATES = {
     "rrs_elf": "rrs-elf",
     "rrs_words": "machine-words",
     "rrs_machine": "machine-mode",
-    "rrs_atomics": "atomics",
+    "rrs_hart": "hart",
     "rrs_oracle": "questions",
 }
 

@@ -9,7 +9,6 @@ pub mod ProcessBytes
 pub mod ProcessAccesses
 pub mod Stretches
 pub mod Telling
-pub mod MendedBytes
 pub mod MendedSteps
 pub mod MendedRuns
 pub mod MendedTold

@@ -13,9 +13,10 @@ use Rattle.rrs_lib.specs.Machine.{State, Outcome}
 use Rattle.rrs_lib.specs.Steps.{StepAnswer, next_word, answered}
 use Rattle.rrs_lib.specs.Accesses.{Access, Makes, fetch, read_if_aligned}
 use Rattle.rrs_lib.proofs.Making.{Makes-append}
-use Rattle.rrs_atomics.specs.Atomics.{leaves}
-use Rattle.rrs_exec.specs.Mending.{anywhere_by, accesses_anywhere, moved, looked_at, Mended, Stands, ByBytes, Swaps, Stays}
-use Rattle.rrs_exec.specs.MendedRounds.{LeavesIf}
+use Rattle.rrs_hart.specs.Atomics.{leaves}
+use Rattle.rrs_hart.specs.Harts.{moved}
+use Rattle.rrs_exec.specs.Mending.{looked_at, Mended, Stands, ByBytes, Swaps, Stays}
+use Rattle.rrs_hart.specs.Anywhere.{anywhere_by, accesses_anywhere, LeavesIf}
 
 -- ---- what is read again
 
@@ -32,11 +33,11 @@ next_is s w even read = rw even read
 
 pub by_bytes : (fault : InstructionException) (a w : ℕ) (row : Row) (f : Fields) (s t u : State) (r : Option ℕ)
     (answer : StepAnswer) (o : Option Outcome) → anywhere_by (table row).action f s ≡ o → LeavesIf o s u (Some answer)
-    → t ≡ moved u answer → fault ≡ AlignmentFault a → next_word s ≡ Some w → Decodes w row f
+    → t ≡ moved 4 u answer → fault ≡ AlignmentFault a → next_word s ≡ Some w → Decodes w row f
     → Mended false fault r s r t answer (fetch s ∷ accesses_anywhere (table row).action f s)
 by_bytes fault a w row f s t u r answer None is left goes of next decodes = absurd left
 by_bytes fault a w row f s t u r answer (Some o) is left goes of next decodes =
-    let ends : t ≡ moved o.after (answered o.answer) = goes ∙ (λ k. moved (left.0 k) (left.1 k)) in
+    let ends : t ≡ moved 4 o.after (answered o.answer) = goes ∙ (λ k. moved 4 (left.0 k) (left.1 k)) in
     ByBytes a w row f o refl of next decodes is (λ k. leaves (ends k) r (left.1 k)) refl
 
 pub is_none : (o : Option Outcome) (s t : State) → LeavesIf o s t None → (o ≡ None) × (t ≡ s)

@@ -1,11 +1,11 @@
 -- What is told of an instruction that is carried out: its word, its source registers, and its access as one.
-use Rattle.std.proofs.Common.{◌≡◌, ℕ, zero, suc, ◌%◌, ◌==◌, ◌<◌, ◌+◌, ℤ, pos, Bool, true, false, if◌then◌else◌, List, [], ◌∷◌, Option, Some, None, Result, Ok, Err, refl, sym, subst, ap, ◌∙◌, IfOk, IfSome, arith}
+use Rattle.std.proofs.Common.{◌≡◌, ℕ, zero, suc, ◌%◌, ◌==◌, ◌<◌, ℤ, pos, Bool, true, false, if◌then◌else◌, List, [], ◌∷◌, Option, Some, None, Result, Ok, Err, refl, sym, subst, ap, ◌∙◌, IfOk, arith}
 use Rattle.std.proofs.lemmas.Option.{same_Some}
 use Rattle.rrs_memory.specs.declared.MemAccessSize.{MemAccessSize}
 use Rattle.rrs_memory.specs.declared.MemAccessSize.TheVariants.{Word}
 use Rattle.rrs_memory.specs.Bytes.{little_endian, all_writable}
 use Rattle.rrs_instruction.specs.declared.instruction_formats.RType.{RType}
-use Rattle.rrs_instruction.specs.Encodings.{Fields, R, I, S, IsInRange}
+use Rattle.rrs_instruction.specs.Encodings.{Fields, I, S, IsInRange}
 use Rattle.rrs_instruction.specs.Table.{Row, table, Action, Load, Store, Decodes}
 use Rattle.rrs_lib.specs.declared.instruction_executor.InstructionException.{InstructionException}
 use Rattle.rrs_lib.specs.declared.instruction_executor.InstructionException.TheVariants.{IllegalInstruction, AlignmentFault}
@@ -15,14 +15,17 @@ use Rattle.rrs_lib.specs.Accesses.{Access, Read, Write, Makes, fetch, read_in, w
 use Rattle.rrs_words.specs.AtomicInstructions.{IsAtomic}
 use Rattle.rrs_words.specs.declared.atomics.AtomicRow.{AtomicRow}
 use Rattle.rrs_words.specs.declared.atomics.AtomicRow.TheVariants.{LrW, ScW}
-use Rattle.rrs_atomics.specs.Atomics.{AtomicOutcome, leaves, holds, stored, combined, reserved, conditional, swapped, aligned_outcome, atomic_outcome, swap_accesses, aligned_accesses, accesses_of_atomic}
+use Rattle.rrs_hart.specs.Atomics.{AtomicOutcome, holds, stored, combined, reserved, conditional, swapped, aligned_outcome, atomic_outcome, swap_accesses, aligned_accesses, accesses_of_atomic}
 use Rattle.rrs_trace.specs.declared.traced.MemoryAccess.{MemoryAccess}
 use Rattle.rrs_trace.specs.declared.traced.TracedMemory.{TracedMemory}
 use Rattle.rrs_trace.specs.Retired.{no_access, log_of, followed, after_fetch, first_source, second_source}
 use Rattle.rrs_trace.specs.Traced.{Traces, traced_reads, traced_writes}
 use Rattle.rrs_exec.specs.declared.mending.Carried.{Carried}
-use Rattle.rrs_exec.specs.Mending.{anywhere_by, stored_anywhere, moved, Mended, ByBytes, Swaps, Stays}
-use Rattle.rrs_exec.specs.MendedRecords.{byte_mask, whole_load, whole_access, IsFaultOf, OfAccess, OfAtomic}
+use Rattle.rrs_hart.specs.Anywhere.{anywhere_by}
+use Rattle.rrs_hart.specs.Harts.{moved}
+use Rattle.rrs_exec.specs.Mending.{Mended, ByBytes, Swaps, Stays}
+use Rattle.rrs_hart.specs.declared.bytes.ByteAccess.{ByteAccess}
+use Rattle.rrs_exec.specs.MendedRecords.{whole_of, whole_access, IsFaultOf, OfAccess, OfAtomic}
 
 -- ---- what holds of an answer that is Ok
 
@@ -30,27 +33,15 @@ pub ok_more : {A E : Type 0} (x : Result A E) (P Q : A → Type 0) → IfOk x P 
 ok_more (Ok a) P Q holds more = more a holds
 ok_more (Err e) P Q holds more = tt
 
-pub told_of : (x : Option (Result MemoryAccess InstructionException)) (answer : Result MemoryAccess InstructionException)
-    (access m : MemoryAccess) → x ≡ Some answer → answer ≡ Ok access
-    → IfSome x (λ a. IfOk a (λ y. y ≡ m)) → access ≡ m
-told_of None answer access m is ok told = absurd (cc (is))
-told_of (Some (Ok y)) answer access m is ok told = let same : access ≡ y = cc (is, ok) in same ∙ told
-told_of (Some (Err e)) answer access m is ok told = absurd (cc (is, ok))
+pub told_as : (x : Result MemoryAccess InstructionException) (access : MemoryAccess) (P : Option ByteAccess → Type 0) (o : Option ByteAccess)
+    → x ≡ Ok access → IfOk x (λ y. (o : Option ByteAccess) → P o → y ≡ whole_of o) → P o → access ≡ whole_of o
+told_as (Ok y) access P o ok told holds = let same : access ≡ y = cc (ok) in same ∙ told o holds
+told_as (Err e) access P o ok told holds = absurd (cc (ok))
 
 pub told_by : {B : Type 0} (answer : Result MemoryAccess InstructionException) (access : MemoryAccess) (m : B → MemoryAccess) → answer ≡ Ok access
     → IfOk answer (λ y. (b : B) → y ≡ m b) → (b : B) → access ≡ m b
 told_by (Ok y) access m ok told b = let same : access ≡ y = cc (ok) in same ∙ told b
 told_by (Err e) access m ok told b = absurd (cc (ok))
-
--- ---- a load by bytes
-
-pub load_told : (n a at value mask : ℕ) (o : Option ℕ) → a ≡ at → mask ≡ byte_mask n → o ≡ Some value
-    → record { addr = a; rmask = mask; wmask = 0; rdata = value; wdata = 0 } ≡ whole_load n at o
-load_told n a at value mask o here is read =
-    let same : MemoryAccess = record { addr = at; rmask = byte_mask n; wmask = 0; rdata = value; wdata = 0 } in
-    let first : record { addr = a; rmask = mask; wmask = 0; rdata = value; wdata = 0 } ≡ same =
-    (λ k. record { addr = here k; rmask = is k; wmask = 0; rdata = value; wdata = 0 }) in
-    first ∙ ap (whole_load n at) (sym read)
 
 -- ---- accesses of a traced memory after the fetch
 
@@ -195,7 +186,7 @@ anywhere_last (Store n) (S f) s o is range before =
     subst (λ x. LastIsRegister x.after.last) (same_Some _ _ is) (both_last (all_writable s.writable _ n) _ _ before before)
 anywhere_last _ _ s o is range before = absurd (cc (is))
 
-moved_last : (s : State) (answer : StepAnswer) → LastIsRegister s.last → LastIsRegister (moved s answer).last
+moved_last : (s : State) (answer : StepAnswer) → LastIsRegister s.last → LastIsRegister (moved 4 s answer).last
 moved_last s (Ok v) before = before
 moved_last s (Err e) before = before
 

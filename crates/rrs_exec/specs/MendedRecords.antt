@@ -1,19 +1,20 @@
 -- What an instruction retired that was carried out after its fault, in the shape of RVFI, the
 -- RISC-V Formal Interface. A load or a store at any address is one access of all its bytes, as it is
 -- in the commit log of Spike, and one of extension A is what it is in machine mode.
-use Rattle.std.specs.Prelude.{◌≡◌, ℕ, ◌-◌, ◌%◌, ◌^◌, ◌∷◌, Option, Some, None, Result, Ok, Err, false}
+use Rattle.std.specs.Prelude.{◌≡◌, ℕ, ◌-◌, ◌^◌, if◌then◌else◌, ◌∷◌, Option, Some, None, false}
 use Rattle.rrs_instruction.specs.declared.instruction_formats.RType.{RType}
-use Rattle.rrs_instruction.specs.Encodings.{Fields, I, S}
-use Rattle.rrs_instruction.specs.Table.{Row, table, Action, Load, Store, Decodes}
-use Rattle.rrs_memory.specs.Bytes.{little_endian}
+use Rattle.rrs_instruction.specs.Encodings.{Fields}
+use Rattle.rrs_instruction.specs.Table.{Row, table, Action, Decodes}
 use Rattle.rrs_lib.specs.declared.instruction_executor.InstructionException.{InstructionException}
 use Rattle.rrs_lib.specs.declared.instruction_executor.InstructionException.TheVariants.{IllegalInstruction, AlignmentFault}
-use Rattle.rrs_lib.specs.Machine.{State, reg, plus_immediate}
-use Rattle.rrs_lib.specs.Steps.{StepAnswer, next_word}
+use Rattle.rrs_lib.specs.Machine.{State, reg}
+use Rattle.rrs_lib.specs.Steps.{next_word}
 use Rattle.rrs_lib.specs.Accesses.{fetch}
 use Rattle.rrs_words.specs.AtomicInstructions.{IsAtomic}
 use Rattle.rrs_words.specs.declared.atomics.AtomicRow.{AtomicRow}
-use Rattle.rrs_atomics.specs.Atomics.{accesses_of_atomic}
+use Rattle.rrs_hart.specs.Atomics.{accesses_of_atomic}
+use Rattle.rrs_hart.specs.Anywhere.{told_anywhere}
+use Rattle.rrs_hart.specs.declared.bytes.ByteAccess.{ByteAccess}
 use Rattle.rrs_trace.specs.declared.traced.MemoryAccess.{MemoryAccess}
 use Rattle.rrs_trace.specs.declared.retired.Retired.{Retired}
 use Rattle.rrs_trace.specs.Retired.{no_access, after_fetch, first_source, second_source, last_of}
@@ -24,25 +25,29 @@ use Rattle.rrs_trace.specs.Retired.{no_access, after_fetch, first_source, second
 abbrev pub byte_mask : ℕ → ℕ
 byte_mask n = 2 ^ n - 1
 
--- n bytes that are read, with their value, which is not extended; no access if one is not mapped
-abbrev pub whole_load : ℕ → ℕ → Option ℕ → MemoryAccess
-whole_load n a None = no_access
-whole_load n a (Some value) =
-    record { addr = a; rmask = byte_mask n; wmask = 0; rdata = value; wdata = 0 }
-
--- the low n bytes of a value that are written
-abbrev pub whole_store : ℕ → ℕ → ℕ → MemoryAccess
-whole_store n a value =
-    record { addr = a; rmask = 0; wmask = byte_mask n; rdata = 0; wdata = value % 256 ^ n }
+-- a load or a store by bytes as one access of all its bytes
+abbrev pub whole_of : Option ByteAccess → MemoryAccess
+whole_of None = no_access
+whole_of (Some x) =
+    if x.is_store
+    then record {
+      addr = x.address;
+      rmask = 0;
+      wmask = byte_mask x.size;
+      rdata = 0;
+      wdata = x.value;
+    }
+    else record {
+      addr = x.address;
+      rmask = byte_mask x.size;
+      wmask = 0;
+      rdata = x.value;
+      wdata = 0;
+    }
 
 -- the load or the store of an action, wherever its address is
 abbrev pub whole_access : Action → Fields → State → MemoryAccess
-whole_access (Load n extended) (I f) s =
-    whole_load n (plus_immediate (reg s f.rs1) f.imm)
-    (little_endian s.bytes (plus_immediate (reg s f.rs1) f.imm) n)
-whole_access (Store n) (S f) s =
-    whole_store n (plus_immediate (reg s f.rs1) f.imm) (reg s f.rs2)
-whole_access _ _ s = no_access
+whole_access action f s = whole_of (told_anywhere action f s)
 
 -- ---- the instruction
 

@@ -1,9 +1,6 @@
--- What the private functions of mending.rt say: an access at any address, and the rounds of a run
--- that is mended, each a served run and the instruction that it faulted at.
-use Rattle.std.specs.Prelude.{◌≡◌, ℕ, ◌+◌, ◌<◌, ◌≤◌, ℤ, pos, Bool, if◌then◌else◌, List, ◌++◌, Option, Some, None, Result, Ok, Err}
-use Rattle.rrs_instruction.specs.Results.{sign_extended}
-use Rattle.rrs_lib.specs.Machine.{State, Outcome}
-use Rattle.rrs_lib.specs.Steps.{StepAnswer, answered}
+-- The rounds of a run that is mended, each a served run and the instruction that it faulted at.
+use Rattle.std.specs.Prelude.{◌≡◌, ℕ, ◌+◌, ◌<◌, ◌≤◌, Bool, List, ◌++◌, Option, Ok}
+use Rattle.rrs_lib.specs.Machine.{State}
 use Rattle.rrs_lib.specs.Accesses.{Access}
 use Rattle.rrs_lib.specs.declared.instruction_executor.InstructionException.{InstructionException}
 use Rattle.rrs_exec.specs.declared.mending.MendedRound.{MendedRound}
@@ -11,29 +8,6 @@ use Rattle.rrs_exec.specs.declared.mending.MendedRound.TheVariants.{GoneOn, Ende
 use Rattle.rrs_fast.specs.declared.serving.Ending.TheVariants.{Fault}
 use Rattle.rrs_fast.specs.Serving.{Relation, Served}
 use Rattle.rrs_exec.specs.Mending.{Mended, MendedRun}
-
--- the number that a value of so many bytes is, by its sign or without one
-abbrev pub extended_by : Bool → ℕ → ℕ → ℤ
-extended_by is_signed size = if is_signed then sign_extended size else pos
-
--- the answer of what tells something more where it is Ok
-abbrev pub answer_of : {A : Type 0} → Result A InstructionException → StepAnswer
-answer_of (Ok told) = Ok tt
-answer_of (Err e) = Err e
-
-abbrev pub answer_if : {A : Type 0} → Option (Result A InstructionException) → Option StepAnswer
-answer_if None = None
-answer_if (Some answer) = Some (answer_of answer)
-
--- an outcome, where there is one, is what became of the state, and the answer
-abbrev pub Leaves : Outcome → State → StepAnswer → Type 0
-Leaves o t answer = (t ≡ o.after) × (answer ≡ answered o.answer)
-
-abbrev pub LeavesIf : Option Outcome → State → State → Option StepAnswer → Type 0
-LeavesIf None s t None = t ≡ s
-LeavesIf (Some o) s t (Some answer) = Leaves o t answer
-LeavesIf None s t (Some answer) = ⊥
-LeavesIf (Some o) s t None = ⊥
 
 -- a served run that comes to a fault, which is mended
 pub record CameTo {E : Type 0} (serves : Relation E) (strict : Bool) (limit : ℕ) (r : Option ℕ)

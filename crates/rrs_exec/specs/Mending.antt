@@ -1,106 +1,25 @@
 -- How a hart goes on where the kit's step faults at a load or a store of a misaligned address, or
--- at an instruction of extension A (RISC-V unprivileged specification, "Load and Store
--- Instructions": an execution environment may support misaligned loads and stores fully, and need
--- not make each at once; Linux does so for a process), and runs of programs that go on so.
-use Rattle.std.specs.Prelude.{◌≡◌, ℕ, zero, suc, ◌+◌, ◌-◌, ◌/◌, ◌^◌, nat_lt, if◌then◌else◌, List, [], ◌∷◌, ◌++◌, pos, Bool, true, false, Option, Some, None, Ok, Err}
+-- at an instruction of extension A, and runs of programs that go on so.
+use Rattle.std.specs.Prelude.{◌≡◌, ℕ, ◌+◌, ◌-◌, List, [], ◌∷◌, ◌++◌, Bool, false, Option, Some, None, Ok, Err}
 use Rattle.rrs_instruction.specs.declared.instruction_formats.RType.{RType}
-use Rattle.rrs_instruction.specs.Encodings.{Fields, I, S}
-use Rattle.rrs_instruction.specs.Table.{Row, table, Action, Load, Store, Decodes}
-use Rattle.rrs_instruction.specs.Words.{word}
-use Rattle.rrs_memory.specs.declared.MemAccessSize.TheVariants.{Byte, Word}
-use Rattle.rrs_memory.specs.Bytes.{ByteMap, little_endian, all_writable}
+use Rattle.rrs_instruction.specs.Encodings.{Fields}
+use Rattle.rrs_instruction.specs.Table.{Row, table, Decodes}
+use Rattle.rrs_memory.specs.declared.MemAccessSize.TheVariants.{Word}
 use Rattle.rrs_lib.specs.declared.instruction_executor.InstructionException.{InstructionException}
-use Rattle.rrs_lib.specs.declared.instruction_executor.InstructionException.TheVariants.{IllegalInstruction, AlignmentFault, StoreAccessFault}
-use Rattle.rrs_lib.specs.Machine.{State, reg, with_pc, plus_immediate, Outcome, read_outcome, granted_outcome, fault_outcome}
+use Rattle.rrs_lib.specs.declared.instruction_executor.InstructionException.TheVariants.{IllegalInstruction, AlignmentFault}
+use Rattle.rrs_lib.specs.Machine.{State, Outcome}
 use Rattle.rrs_lib.specs.Steps.{StepAnswer, next_word, answered}
-use Rattle.rrs_lib.specs.Accesses.{Access, Read, Write, read_if_aligned, fetch}
+use Rattle.rrs_lib.specs.Accesses.{Access, read_if_aligned, fetch}
 use Rattle.rrs_words.specs.AtomicInstructions.{IsAtomic}
 use Rattle.rrs_words.specs.declared.atomics.AtomicRow.{AtomicRow}
-use Rattle.rrs_atomics.specs.Atomics.{AtomicOutcome, leaves, atomic_outcome, accesses_of_atomic}
+use Rattle.rrs_hart.specs.Atomics.{leaves, atomic_outcome, accesses_of_atomic}
+use Rattle.rrs_hart.specs.Anywhere.{anywhere_by, accesses_anywhere}
+use Rattle.rrs_hart.specs.Harts.{moved_on}
 use Rattle.rrs_fast.specs.declared.serving.Ending.{Ending}
 use Rattle.rrs_fast.specs.declared.serving.Ending.TheVariants.{Limit, Fault, Exit}
 use Rattle.rrs_fast.specs.Serving.{Relation, Served, IsDetermined}
 
--- ---- a load or a store at any address
-
--- the low n bytes of a value are stored, or none of them
-abbrev pub stored_anywhere : ℕ → ℕ → ℕ → State → Outcome
-stored_anywhere n value a s =
-    if all_writable s.writable a n then granted_outcome n value a s
-    else fault_outcome (StoreAccessFault a) s
-
--- The outcome of a load or a store wherever its address is: the one that Machine.antt gives it, but
--- for the test of the address. Another action has none.
-abbrev pub anywhere_by : Action → Fields → State → Option Outcome
-anywhere_by (Load n extended) (I f) s =
-    Some (read_outcome extended f.rd (plus_immediate (reg s f.rs1) f.imm) s
-    (little_endian s.bytes (plus_immediate (reg s f.rs1) f.imm) n))
-anywhere_by (Store n) (S f) s =
-    Some (stored_anywhere n (reg s f.rs2) (plus_immediate (reg s f.rs1) f.imm) s)
-anywhere_by _ _ s = None
-
--- ---- its accesses, each of a byte
-
--- A byte is read. No access reaches 2 ^ 32, where nothing is mapped.
-abbrev pub byte_read : ByteMap → ℕ → List Access
-byte_read bytes a = if nat_lt a (2 ^ 32) then Read a Byte (little_endian bytes a 1) ∷ [] else []
-
--- a byte is read behind others, where all of these are mapped
-abbrev pub read_after : Option ℕ → ByteMap → ℕ → List Access
-read_after None bytes a = []
-read_after (Some value) bytes a = byte_read bytes a
-
--- the n bytes from a on are read, in order, up to one that is not mapped
-abbrev pub byte_reads : ByteMap → ℕ → ℕ → List Access
-byte_reads bytes a zero = []
-byte_reads bytes a (suc n) =
-    byte_reads bytes a n ++ read_after (little_endian bytes a n) bytes (a + n)
-
--- the byte that was read is written as it is, so that it stays
-abbrev pub same_written : (ℕ → Bool) → ℕ → Option ℕ → List Access
-same_written writable a None = []
-same_written writable a (Some byte) = Write a Byte byte (writable a) ∷ []
-
--- whether a byte is writable, tried
-abbrev pub byte_trial : ByteMap → (ℕ → Bool) → ℕ → List Access
-byte_trial bytes writable a =
-    byte_read bytes a ++ same_written writable a (little_endian bytes a 1)
-
--- the n bytes from a on are tried, in order, up to one that is not writable
-abbrev pub byte_trials : ByteMap → (ℕ → Bool) → ℕ → ℕ → List Access
-byte_trials bytes writable a zero = []
-byte_trials bytes writable a (suc n) =
-    byte_trials bytes writable a n
-    ++ (if all_writable writable a n then byte_trial bytes writable (a + n) else [])
-
--- the low n bytes of a value are written, in order: byte i is the lowest of value / 256 ^ i
-abbrev pub byte_writes : ℕ → ℕ → ℕ → List Access
-byte_writes a value zero = []
-byte_writes a value (suc n) =
-    byte_writes a value n ++ Write (a + n) Byte (value / 256 ^ n) true ∷ []
-
--- a store tries its bytes first, and writes where all are writable
-abbrev pub byte_stores : ℕ → ℕ → ℕ → State → List Access
-byte_stores n value a s =
-    byte_trials s.bytes s.writable a n
-    ++ (if all_writable s.writable a n then byte_writes a value n else [])
-
-abbrev pub accesses_anywhere : Action → Fields → State → List Access
-accesses_anywhere (Load n extended) (I f) s =
-    byte_reads s.bytes (plus_immediate (reg s f.rs1) f.imm) n
-accesses_anywhere (Store n) (S f) s =
-    byte_stores n (reg s f.rs2) (plus_immediate (reg s f.rs1) f.imm) s
-accesses_anywhere _ _ s = []
-
 -- ---- one instruction
-
--- the program counter goes on by 4 after an instruction that is carried out
-abbrev pub moved : State → StepAnswer → State
-moved s (Ok v) = with_pc s (word (pos (s.pc + 4)))
-moved s (Err e) = s
-
-abbrev pub moved_on : AtomicOutcome → AtomicOutcome
-moved_on o = leaves (moved o.after o.answer) o.reservation o.answer
 
 -- A fault stands: it is none of a load or a store at a misaligned address, or these are strict, and
 -- it is none of an instruction of extension A.
@@ -124,13 +43,13 @@ pub data Mended (strict : Bool) (fault : InstructionException) (r : Option ℕ) 
   ByBytes : (a w : ℕ) (row : Row) (f : Fields) (o : Outcome)
       → strict ≡ false → fault ≡ AlignmentFault a
       → next_word s ≡ Some w → Decodes w row f → anywhere_by (table row).action f s ≡ Some o
-      → leaves t r' answer ≡ moved_on (leaves o.after r (answered o.answer))
+      → leaves t r' answer ≡ moved_on 4 (leaves o.after r (answered o.answer))
       → accesses ≡ fetch s ∷ accesses_anywhere (table row).action f s
       → Mended strict fault r s r' t answer accesses
   -- an instruction of extension A: the fault has its word
   Swaps : (pc w : ℕ) (row : AtomicRow) (f : RType)
       → fault ≡ IllegalInstruction pc w → IsAtomic w row f
-      → leaves t r' answer ≡ moved_on (atomic_outcome row f s r)
+      → leaves t r' answer ≡ moved_on 4 (atomic_outcome row f s r)
       → accesses ≡ accesses_of_atomic row f s r
       → Mended strict fault r s r' t answer accesses
   -- another fault, which stands

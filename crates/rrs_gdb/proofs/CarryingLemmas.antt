@@ -15,8 +15,10 @@ use Rattle.rrs_lib.specs.Accesses.{Access, read_in, write_in}
 use Rattle.rrs_words.specs.AtomicInstructions.{IsAtomic}
 use Rattle.rrs_words.specs.declared.atomics.AtomicRow.{AtomicRow}
 use Rattle.rrs_words.specs.declared.atomics.AtomicRow.TheVariants.{LrW, ScW}
-use Rattle.rrs_atomics.specs.Atomics.{AtomicOutcome, leaves, holds, reserved, conditional, swapped, combined, aligned_outcome, atomic_outcome, swap_accesses, aligned_accesses, accesses_of_atomic}
-use Rattle.rrs_exec.specs.Mending.{anywhere_by, stored_anywhere, moved, moved_on, Mended, ByBytes, Swaps as MendsAtomic, Stays}
+use Rattle.rrs_hart.specs.Atomics.{AtomicOutcome, leaves, holds, reserved, conditional, swapped, combined, aligned_outcome, atomic_outcome, swap_accesses, aligned_accesses, accesses_of_atomic}
+use Rattle.rrs_hart.specs.Anywhere.{anywhere_by, stored_anywhere}
+use Rattle.rrs_hart.specs.Harts.{moved, moved_on}
+use Rattle.rrs_exec.specs.Mending.{Mended, ByBytes, Swaps as MendsAtomic, Stays}
 use Rattle.rrs_fast.specs.Serving.{resumed}
 use Rattle.rrs_history.specs.declared.history.History.{History}
 use Rattle.rrs_history.specs.Histories.{changes, room, past}
@@ -85,11 +87,11 @@ atomic_keeps row f s r = granted_keeps s (reg s f.rs1 % 4 == 0) _ _ (aligned_kee
 
 -- where the pc would go on, after an exception
 left_there : (s t : State) (r r' : Option ℕ) (o : AtomicOutcome) (left : InstructionException)
-    → leaves t r' (Err left) ≡ moved_on o → KeepsAtomic s o → t ≡ s
+    → leaves t r' (Err left) ≡ moved_on 4 o → KeepsAtomic s o → t ≡ s
 left_there s t r r' o left is keeps =
     let answer : Err left ≡ o.answer = ap (λ (x : AtomicOutcome). x.answer) is in
-    let there : t ≡ moved o.after o.answer = ap (λ (x : AtomicOutcome). x.after) is in
-    there ∙ ap (moved o.after) (sym answer) ∙ keeps left (sym answer)
+    let there : t ≡ moved 4 o.after o.answer = ap (λ (x : AtomicOutcome). x.after) is in
+    there ∙ ap (moved 4 o.after) (sym answer) ∙ keeps left (sym answer)
 
 err_so : (answer : Answer) (e : InstructionException) → answered answer ≡ Err e → answer ≡ Err e
 err_so (Ok set) e is = absurd (cc)

@@ -14,7 +14,7 @@ use Rattle.rrs_lib.specs.Accesses.{Access}
 use Rattle.rrs_lib.specs.Steps.{Step, StepAnswer, next_word}
 use Rattle.rrs_words.specs.AtomicInstructions.{IsAtomic}
 use Rattle.rrs_words.specs.declared.atomics.AtomicRow.{AtomicRow}
-use Rattle.rrs_atomics.specs.Atomics.{accesses_of_atomic}
+use Rattle.rrs_hart.specs.Atomics.{accesses_of_atomic}
 use Rattle.rrs_fast.specs.Serving.{Relation}
 use Rattle.rrs_trace.specs.declared.outside.DataRequest.{DataRequest}
 use Rattle.rrs_trace.specs.Outside.{request_by, address_of, size_asked}

@@ -14,7 +14,7 @@ ghost use Rattle.rrs_lib.specs.Bytes.{width, little_endian};
 ghost use Rattle.rrs_lib.specs.Machine.{State, state_of, reg, plus_immediate};
 ghost use Rattle.rrs_lib.specs.Executor.{state_in, KeepsTheRest};
 ghost use Rattle.rrs_lib.specs.Accesses.{write_in};
-ghost use Rattle.rrs_atomics.specs.Atomics.{accesses_of_atomic, holds, swap_accesses};
+ghost use Rattle.rrs_hart.specs.Atomics.{accesses_of_atomic, holds, swap_accesses};
 ghost use Rattle.rrs_trace.specs.Outside.{request_by, address_of, size_asked};
 ghost use Rattle.rrs_gdb.specs.declared.breaks.Watch.{Watch};
 ghost use Rattle.rrs_gdb.specs.Carrying.{may_carry, AsksMisaligned, TouchesOneOf, CarriedTouchesNone, CarriedTouchesOne, Carried, MadeAgain};

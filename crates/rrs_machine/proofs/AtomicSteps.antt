@@ -1,25 +1,21 @@
 -- A word is one instruction of extension A at most, and none of those that are in the table of system instructions; and
 -- what such an instruction leaves and accesses.
-use Rattle.std.proofs.Common.{◌≡◌, ℕ, ◌/◌, ◌%◌, ◌^◌, ◌<◌, ◌==◌, ℤ, zero, suc, pos, List, ◌∷◌, Bool, true, false, if◌then◌else◌, Option, Some, None, Ok, Err, OnErr, refl, sym, subst, ap, ◌∙◌, lit<, arith}
+use Rattle.std.proofs.Common.{◌≡◌, ℕ, ◌%◌, ◌^◌, ◌<◌, ◌==◌, ℤ, zero, suc, pos, List, ◌∷◌, Bool, true, false, if◌then◌else◌, Option, Some, None, Ok, Err, OnErr, refl, sym, subst, ap, ◌∙◌, arith}
 use Rattle.std.proofs.lemmas.Option.{same_Some}
 use Rattle.rrs_instruction.specs.declared.instruction_formats.IType.{IType}
 use Rattle.rrs_instruction.specs.declared.instruction_formats.RType.{RType}
-use Rattle.rrs_instruction.specs.Encodings.{Fields, R}
-use Rattle.rrs_instruction.proofs.Places.{same_fields_of}
 use Rattle.rrs_lib.specs.declared.MemAccessSize.TheVariants.{Word}
 use Rattle.rrs_lib.specs.Bytes.{little_endian, all_writable}
 use Rattle.rrs_lib.specs.Machine.{State, reg, put}
 use Rattle.rrs_lib.specs.Steps.{StepAnswer, LastIsRegister, next_word, cleared}
 use Rattle.rrs_lib.specs.Accesses.{Access, read_in, write_in}
 use Rattle.rrs_words.specs.declared.instructions.SystemRow.{SystemRow}
-use Rattle.rrs_words.specs.declared.instructions.SystemRow.TheVariants.{FenceI}
 use Rattle.rrs_words.specs.declared.atomics.AtomicRow.{AtomicRow}
-use Rattle.rrs_words.specs.declared.atomics.AtomicRow.TheVariants.{LrW, ScW, AmoSwap, AmoAdd, AmoXor, AmoAnd, AmoOr, AmoMin, AmoMax, AmoMinu, AmoMaxu}
-use Rattle.rrs_words.specs.SystemInstructions.{IsSystem, system_table}
-use Rattle.rrs_words.specs.AtomicInstructions.{IsAtomic, atomic_table}
-use Rattle.rrs_words.proofs.SystemRows.{opcode_of}
-use Rattle.rrs_words.proofs.AtomicPlaces.{atomic_places}
-use Rattle.rrs_atomics.specs.Atomics.{AtomicOutcome, combined, holds, stored, leaves, reserved, conditional, swapped, aligned_outcome, kept_reservation, atomic_outcome, swap_accesses, aligned_accesses, accesses_of_atomic}
+use Rattle.rrs_words.specs.declared.atomics.AtomicRow.TheVariants.{LrW, ScW}
+use Rattle.rrs_words.specs.SystemInstructions.{IsSystem}
+use Rattle.rrs_words.specs.AtomicInstructions.{IsAtomic}
+use Rattle.rrs_hart.specs.Atomics.{AtomicOutcome, combined, holds, stored, leaves, reserved, conditional, swapped, aligned_outcome, kept_reservation, atomic_outcome, swap_accesses, aligned_accesses, accesses_of_atomic}
+use Rattle.rrs_hart.proofs.OneLayer.{atomic-unique, never_both}
 use Rattle.rrs_trace.proofs.TracedAccesses.{Keeps, keeps_fetch, keeps_one, keeps_two}
 use Rattle.rrs_trace.specs.Traced.{read_by}
 use Rattle.rrs_machine.specs.declared.csrs.CsrFile.{CsrFile}
@@ -28,59 +24,11 @@ use Rattle.rrs_machine.specs.MachineSteps.{MachineState, AtomicAt, atomic_ended,
 
 -- ---- one instruction at most
 
--- the row with a funct5
-abbrev row_at : ℕ → Option AtomicRow
-row_at n =
-    if n == 2 then Some LrW
-    else (if n == 3 then Some ScW
-    else (if n == 1 then Some AmoSwap
-    else (if n == 0 then Some AmoAdd
-    else (if n == 4 then Some AmoXor
-    else (if n == 12 then Some AmoAnd
-    else (if n == 8 then Some AmoOr
-    else (if n == 16 then Some AmoMin
-    else (if n == 20 then Some AmoMax
-    else (if n == 24 then Some AmoMinu
-    else (if n == 28 then Some AmoMaxu else None))))))))))
-
-row_at-is : (row : AtomicRow) → row_at (atomic_table row).funct5 ≡ Some row
-row_at-is LrW = refl
-row_at-is ScW = refl
-row_at-is AmoSwap = refl
-row_at-is AmoAdd = refl
-row_at-is AmoXor = refl
-row_at-is AmoAnd = refl
-row_at-is AmoOr = refl
-row_at-is AmoMin = refl
-row_at-is AmoMax = refl
-row_at-is AmoMinu = refl
-row_at-is AmoMaxu = refl
-
--- the fields in a format R
-abbrev fields_in_R : RType → Fields → RType
-fields_in_R other (R f) = f
-fields_in_R other _ = other
-
-pub atomic-unique : (w : ℕ) (row row' : AtomicRow) (f f' : RType) → IsAtomic w row f → IsAtomic w row' f' → (row ≡ row') × (f ≡ f')
-atomic-unique w row row' f f' is is' =
-    let fields = same_fields_of w 0x2f (R f) (R f') (lit< tt) refl is.in_range is'.in_range is.encoded is'.encoded in
-    let same : f ≡ f' = ap (fields_in_R f) fields in
-    let numbers = sym is.funct5 ∙ ap (λ (x : RType). x.funct7 / 2 ^ 2) same ∙ is'.funct5 in
-    (same_Some _ _ (sym (row_at-is row) ∙ ap row_at numbers ∙ row_at-is row'), same)
-
 pub one_atomic : (s : MachineState) (w w' : ℕ) (row row' : AtomicRow) (f f' : RType) → AtomicAt s w row f → AtomicAt s w' row' f'
     → (row ≡ row') × (f ≡ f')
 one_atomic s w w' row row' f f' at at' =
     let words = same_Some _ _ (sym at.fetched ∙ at'.fetched) in
     atomic-unique w row row' f f' at.is.1 (subst (λ x. IsAtomic x row' f') (sym words) at'.is.1)
-
--- the opcode tells them from the system instructions
-other_opcode : (row : SystemRow) → (system_table row).opcode ≡ 0x2f → ⊥
-other_opcode FenceI same = omega (arith, same)
-other_opcode _ same = omega (arith, same)
-
-pub never_both : (w : ℕ) (row : AtomicRow) (row' : SystemRow) (f : RType) (f' : IType) → IsAtomic w row f → IsSystem w row' f' → ⊥
-never_both w row row' f f' is is' = other_opcode row' (sym (opcode_of w row' f' is') ∙ (atomic_places w row f is).0)
 
 pub not_system : (s : MachineState) (w w' : ℕ) (row : AtomicRow) (row' : SystemRow) (f : RType) (f' : IType) → AtomicAt s w row f
     → next_word s.hart ≡ Some w' → IsSystem w' row' f' → ⊥

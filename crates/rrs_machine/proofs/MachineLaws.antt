@@ -20,7 +20,7 @@ use Rattle.rrs_words.specs.CsrNumbers.{is_read_only}
 use Rattle.rrs_machine.specs.Csrs.{mode_of, found_csr, csr_written, cycle_counted, instruction_counted, retired_file, counted_beside}
 use Rattle.rrs_words.specs.SystemInstructions.{csr_number, writes_csr}
 use Rattle.rrs_machine.specs.Traps.{ready_interrupt, trap_file, return_file, exception_of, exception_of_word}
-use Rattle.rrs_atomics.specs.Atomics.{atomic_outcome}
+use Rattle.rrs_hart.specs.Atomics.{atomic_outcome}
 use Rattle.rrs_machine.specs.MachineSteps.{MachineState, MachineOutcome, ends, trapped, raises, accessed, csr_outcome, passed, wait_answer, is_permitted, permitted_outcome, system_outcome, reserving, opcode_like, atomic_ended, atomic_step, IsNoSystem, IsNoAtomic, Retires, Strays, Faults, Executes, Swaps, MachineStep, Interrupts, Proceeds}
 use Rattle.rrs_machine.proofs.AtomicSteps.{atomic_keeps}
 use Rattle.rrs_machine.specs.Laws.{KeepsValues, KeepsUnlessRetired, WritesNeither, instructions_after, cycles_after}

@@ -29,7 +29,7 @@ use Rattle.rrs_machine.specs.Csrs.{mode_of, retired_file}
 use Rattle.rrs_words.specs.SystemInstructions.{IsSystem}
 use Rattle.rrs_machine.specs.Traps.{exception_of, exception_of_word, exception_of_fetch}
 use Rattle.rrs_machine.specs.MachineSteps.{MachineState, MachineOutcome, machine, raised, interrupted, system_outcome, IsAtomicOf, IsNoAtomic, atomic_step, InstructionStep, Retires, Strays, Faults, Executes, Swaps, MachineStep, Interrupts, Proceeds, AccessesOfInstruction, OfKit, OfAtomic, AccessesOfMachineStep, OfInterrupt, OfInstruction}
-use Rattle.rrs_atomics.specs.Atomics.{accesses_of_atomic}
+use Rattle.rrs_hart.specs.Atomics.{accesses_of_atomic}
 use Rattle.rrs_words.proofs.SystemRows.{system-unique}
 use Rattle.rrs_machine.proofs.AtomicSteps.{one_atomic, not_system}
 

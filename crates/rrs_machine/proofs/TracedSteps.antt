@@ -11,7 +11,7 @@ use Rattle.rrs_machine.specs.declared.machine.MachineAnswer.{MachineAnswer}
 use Rattle.rrs_lib.specs.Machine.{State, put}
 use Rattle.rrs_lib.specs.Steps.{LastIsRegister, next_word, cleared}
 use Rattle.rrs_lib.specs.Accesses.{Access, MakesExactly, fetch}
-use Rattle.rrs_atomics.specs.Atomics.{accesses_of_atomic}
+use Rattle.rrs_hart.specs.Atomics.{accesses_of_atomic}
 use Rattle.rrs_lib.proofs.Keeping.{Step-last}
 use Rattle.rrs_trace.specs.declared.traced.TracedMemory.{TracedMemory}
 use Rattle.rrs_trace.specs.Retired.{no_access, after_fetch}

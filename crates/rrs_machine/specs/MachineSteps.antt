@@ -1,6 +1,6 @@
 -- One step of a hart that has machine mode, alone or with user mode (RISC-V privileged
 -- specification 1.12, "Machine-Level ISA"; unprivileged specification, "Zicsr": an instruction on a
--- CSR reads the old value and then writes), with or without extension A (rrs_atomics). An
+-- CSR reads the old value and then writes), with or without extension A (rrs_hart). An
 -- instruction of the 48 rows does what the kit's own step does, in both modes. Two things are
 -- decided here: a jump or a taken branch to a misaligned address raises its exception at the jump,
 -- with no register written, as the specification has it; and a wfi retires at once, with an answer
@@ -35,7 +35,7 @@ use Rattle.rrs_lib.specs.Steps.{Step, StepAnswer, next_word, cleared, advanced}
 use Rattle.rrs_lib.specs.Executor.{state_in}
 use Rattle.rrs_lib.specs.Accesses.{Access, AccessesOf, fetch}
 use Rattle.rrs_words.specs.AtomicInstructions.{IsAtomic}
-use Rattle.rrs_atomics.specs.Atomics.{AtomicOutcome, atomic_outcome, accesses_of_atomic}
+use Rattle.rrs_hart.specs.Atomics.{AtomicOutcome, atomic_outcome, accesses_of_atomic}
 use Rattle.rrs_words.specs.CsrNumbers.{is_read_only}
 use Rattle.rrs_machine.specs.Csrs.{mode_of, found_csr, csr_value, csr_written, cycle_counted, retired_file, counted_beside}
 use Rattle.rrs_words.specs.SystemInstructions.{IsSystem, csr_number, writes_csr, has_immediate, updated}

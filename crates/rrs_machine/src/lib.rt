@@ -3,7 +3,7 @@
 //! [step_machine] makes a step of a hart that has machine mode: RV32IM with Zicsr, Zifencei and
 //! Zicntr, by the RISC-V privileged specification 1.12. Its [Profile] says whether it has user mode
 //! too, and whether it has extension A. An instruction of the 48 rows does what the kit's own step
-//! does, and one of extension A what `rrs_atomics` does. What a step is, is written in
+//! does, and one of extension A what `rrs_hart` does. What a step is, is written in
 //! `specs/MachineSteps.antt`, with the CSRs in `specs/Csrs.antt` and the traps in
 //! `specs/Traps.antt`. The instructions on CSRs and those of extension A are decoded by `rrs_words`.
 //! [step_machine_retired] makes a step and its record, in the shape of RVFI, as

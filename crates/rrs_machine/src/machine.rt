@@ -9,7 +9,7 @@ ghost use Rattle.rrs_lib.specs.Machine.{state_of};
 ghost use Rattle.rrs_lib.specs.Steps.{Step, cleared};
 ghost use Rattle.rrs_lib.specs.Executor.{state_in, KeepsTheRest};
 ghost use Rattle.rrs_lib.specs.Accesses.{Access, fetch, accesses_of_row, Makes, MakesExactly};
-ghost use Rattle.rrs_atomics.specs.Atomics.{accesses_of_atomic};
+ghost use Rattle.rrs_hart.specs.Atomics.{accesses_of_atomic};
 ghost use Rattle.rrs_machine.specs.declared.csrs.Inputs.{Inputs as InputsOfStep};
 ghost use Rattle.rrs_machine.specs.Csrs.{mode_of, found_csr};
 ghost use Rattle.rrs_words.specs.SystemInstructions.{csr_number, IsSystem};
@@ -21,7 +21,7 @@ ghost use Rattle.rrs_instruction.specs.Words.{bit};
 
 use crate::csrs::{CsrFile, Inputs, Mode};
 use crate::traps::{Exception, Interrupt, exception_of_fetch, exception_of_word};
-use rrs_atomics::execute_atomic;
+use rrs_hart::execute_atomic;
 use rrs_lib::instruction::{Instruction, decode};
 use rrs_lib::instruction_executor::{
     InstructionException, InstructionExecutor, execute_parts, fetch_word,
@@ -454,7 +454,7 @@ fn step_instruction<M: Memory>(
 /// machine mode, the counters that `mcounteren` hides, and `wfi` where TW is 1 are illegal
 /// instructions.
 ///
-/// Where the profile has extension A, its instructions do what `execute_atomic` of `rrs_atomics`
+/// Where the profile has extension A, its instructions do what `execute_atomic` of `rrs_hart`
 /// does, with the reservation among the CSRs. An `lr.w` that is misaligned or refused raises the
 /// exception of a load, and the others raise that of a store. No trap and no `mret` takes the
 /// reservation away.

@@ -7,7 +7,7 @@
 //! CSR names on a hart with a [Profile], and [csr_named] is the number of a name. What the
 //! instructions are is written in `specs/SystemInstructions.antt` and
 //! `specs/AtomicInstructions.antt`, the numbers in `specs/CsrNumbers.antt` and the texts in
-//! `specs/SystemTexts.antt`. Executing is done above, in `rrs_machine` and `rrs_atomics`.
+//! `specs/SystemTexts.antt`. Executing is done above, in `rrs_machine` and `rrs_hart`.
 
 #![tactic(auto)]
 

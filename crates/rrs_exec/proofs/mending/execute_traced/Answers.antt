@@ -2,7 +2,7 @@
 use Rattle.std.proofs.Common.{◌∙◌, ap}
 use Rattle.rrs_lib.specs.Machine.{state_of}
 use Rattle.rrs_exec.proofs.MendedTold.{followed_made, followed_by, atomic_one}
-use Rattle.rrs_atomics.specs.Atomics.{accesses_of_atomic}
+use Rattle.rrs_hart.specs.Atomics.{accesses_of_atomic}
 use Rattle.rrs_exec.proofs.mending.execute_traced.Goals as goal
 
 pub returns-clause-makes : goal.returns-clause-makes

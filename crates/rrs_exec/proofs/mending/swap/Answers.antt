@@ -2,9 +2,10 @@ use Rattle.std.proofs.Common.{◌≡◌, refl, subst, ap, ◌∙◌, []}
 use Rattle.rrs_lib.specs.Machine.{state_of}
 use Rattle.rrs_lib.specs.Accesses.{fetch}
 use Rattle.rrs_words.specs.AtomicInstructions.{IsAtomic}
-use Rattle.rrs_atomics.specs.Atomics.{AtomicOutcome, leaves, atomic_outcome, accesses_of_atomic}
-use Rattle.rrs_exec.specs.Mending.{moved_on, Swaps, Stays}
-use Rattle.rrs_exec.specs.MendedRounds.{answer_of}
+use Rattle.rrs_hart.specs.Atomics.{AtomicOutcome, leaves, atomic_outcome, accesses_of_atomic}
+use Rattle.rrs_hart.specs.Harts.{moved_on}
+use Rattle.rrs_exec.specs.Mending.{Swaps, Stays}
+use Rattle.rrs_hart.specs.Anywhere.{answer_of}
 use Rattle.rrs_exec.proofs.MendedSteps.{nothing_looked_at}
 use Rattle.rrs_exec.proofs.MendedTold.{ok_more, told_by, of_atomic}
 use Rattle.rrs_exec.proofs.mending.swap.Goals as goal
@@ -25,7 +26,7 @@ returns-clause-mended g c = λ strict pc is.
     record {
       accesses = accesses_of_atomic i.row i.fields s r;
       these = Swaps pc c.args.word i.row i.fields is c.in-Some.ensures.decoded
-          ((λ k. leaves (gone.moved bytes writable k) done.new.reservation (gone.same k)) ∙ ap moved_on outcome) refl;
+          ((λ k. leaves (gone.moved bytes writable k) done.new.reservation (gone.same k)) ∙ ap (moved_on 4) outcome) refl;
       made = done.ensures.makes;
     }
 

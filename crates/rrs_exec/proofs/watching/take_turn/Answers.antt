@@ -8,7 +8,7 @@ use Rattle.rrs_trace.specs.Retired.{Retires}
 use Rattle.rrs_exec.specs.Protection.{protected_bytes, protected_writable, protected_reads, ProtectedWrites}
 use Rattle.rrs_lib.proofs.Keeping.{Step-last}
 use Rattle.rrs_exec.specs.Mending.{Mended}
-use Rattle.rrs_exec.specs.MendedRounds.{answer_of}
+use Rattle.rrs_hart.specs.Anywhere.{answer_of}
 use Rattle.rrs_exec.specs.Watching.{Stepped, Faulted, CarriedOut, Called}
 use Rattle.rrs_exec.proofs.watching.take_turn.Goals as goal
 

@@ -6,7 +6,7 @@ use Rattle.rrs_memory.specs.Bytes.{little_endian}
 use Rattle.rrs_trace.specs.declared.outside.DataRequest.{DataRequest}
 use Rattle.rrs_lib.specs.declared.MemAccessSize.TheVariants.{Word}
 use Rattle.rrs_words.specs.declared.atomics.AtomicRow.{AtomicRow}
-use Rattle.rrs_atomics.specs.Atomics.{aligned_accesses, holds, swap_accesses}
+use Rattle.rrs_hart.specs.Atomics.{aligned_accesses, holds, swap_accesses}
 use Rattle.rrs_gdb.specs.Carrying.{TouchesOneOf}
 use Rattle.rrs_gdb.proofs.CarryingLemmas.{aligned_touched, amo_touched, request_touched}
 use Rattle.rrs_gdb.proofs.carrying.atomic_touched.Goals as goal

@@ -1,7 +1,7 @@
 use Rattle.std.proofs.Common.{subst, sym, Option, ℕ, if◌then◌else◌, [], ◌∷◌}
 use Rattle.rrs_lib.specs.declared.MemAccessSize.TheVariants.{Word}
 use Rattle.rrs_lib.specs.Accesses.{write_in}
-use Rattle.rrs_atomics.specs.Atomics.{holds}
+use Rattle.rrs_hart.specs.Atomics.{holds}
 use Rattle.rrs_gdb.specs.Carrying.{TouchesOneOf}
 use Rattle.rrs_gdb.proofs.CarryingLemmas.{stores_reserved}
 use Rattle.rrs_gdb.proofs.carrying.reserved_touched.Goals as goal

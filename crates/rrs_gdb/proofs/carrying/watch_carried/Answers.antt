@@ -2,7 +2,7 @@ use Rattle.std.proofs.Common.{◌≡◌, refl, subst}
 use Rattle.rrs_lib.specs.Machine.{State, state_of}
 use Rattle.rrs_lib.specs.Executor.{state_in}
 use Rattle.rrs_exec.proofs.MendedSteps.{next_is}
-use Rattle.rrs_atomics.specs.Atomics.{accesses_of_atomic}
+use Rattle.rrs_hart.specs.Atomics.{accesses_of_atomic}
 use Rattle.rrs_gdb.specs.Carrying.{TouchesOneOf, Whole}
 use Rattle.rrs_gdb.proofs.CarryingLemmas.{no_word, not_atomic, is_atomic}
 use Rattle.rrs_gdb.proofs.carrying.watch_carried.Goals as goal

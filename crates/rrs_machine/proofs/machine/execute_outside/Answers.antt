@@ -3,7 +3,7 @@ use Rattle.rrs_lib.specs.declared.instruction_executor.InstructionException.TheV
 use Rattle.rrs_lib.specs.Machine.{state_of}
 use Rattle.rrs_lib.specs.Steps.{Illegal, cleared}
 use Rattle.rrs_lib.proofs.Making.{accesses_of_illegal}
-use Rattle.rrs_atomics.specs.Atomics.{accesses_of_atomic}
+use Rattle.rrs_hart.specs.Atomics.{accesses_of_atomic}
 use Rattle.rrs_machine.specs.MachineSteps.{machine_of, AtomicAt, Executes, Swaps, OfKit, OfAtomic}
 use Rattle.rrs_machine.proofs.MachineStepping.{faulted, next_stands, no_atomic_word}
 use Rattle.rrs_machine.proofs.AtomicSteps.{not_system}

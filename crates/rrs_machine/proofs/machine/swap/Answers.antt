@@ -1,7 +1,7 @@
 use Rattle.std.proofs.Common.{◌≡◌, ap, ◌∙◌}
 use Rattle.rrs_lib.specs.Machine.{state_of}
 use Rattle.rrs_lib.specs.Steps.{cleared}
-use Rattle.rrs_atomics.specs.Atomics.{AtomicOutcome, leaves, atomic_outcome}
+use Rattle.rrs_hart.specs.Atomics.{AtomicOutcome, leaves, atomic_outcome}
 use Rattle.rrs_machine.specs.MachineSteps.{atomic_ends}
 use Rattle.rrs_machine.proofs.machine.swap.Goals as goal
 

@@ -1,2 +1,0 @@
--- What the instructions of extension A do.
-pub mod Atomics

@@ -1,0 +1,3 @@
+mod AnyBytes
+pub mod OneLayer
+mod HartSteps

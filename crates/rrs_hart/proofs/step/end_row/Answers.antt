@@ -1,0 +1,94 @@
+use Rattle.std.proofs.Common.{[], Some, Err, refl, sym, subst, ◌∙◌, ap}
+use Rattle.rrs_instruction.specs.Instructions.{row_of, fields_of}
+use Rattle.rrs_instruction.specs.Table.{table}
+use Rattle.rrs_lib.specs.Machine.{state_of, Executes}
+use Rattle.rrs_hart.specs.Anywhere.{anywhere_by, accesses_anywhere, answer_if, LeavesIf}
+use Rattle.rrs_hart.specs.Harts.{moved}
+use Rattle.rrs_hart.proofs.HartSteps.{forgotten, stands, stands_accesses, carried_out, no_bytes_other, not_true, not_false}
+use Rattle.rrs_hart.proofs.step.end_row.Goals as goal
+
+-- the profile carries out no access at a misaligned address
+pub returns-then-not-profile-clause-step : goal.returns-then-not-profile-clause-step
+returns-then-not-profile-clause-step g c = λ r.
+    let memory = g.M.Memory in
+    let s = state_of c.args.hart.now (memory.bytes c.args.mem.now) (memory.writable c.args.mem.now) in
+    let i = c.args.instruction.now in
+    stands c.args.profile s s r c.args.word (row_of i) (fields_of i) c.args.fault (forgotten s c.requires.forgot) c.requires.aligned c.requires.word
+    c.requires.is c.requires.refused refl (λ a o at. not_true c.args.profile.misaligned c.if-not-profile.true at.allowed)
+
+pub returns-then-not-profile-clause-makes : goal.returns-then-not-profile-clause-makes
+returns-then-not-profile-clause-makes g c = λ r.
+    let memory = g.M.Memory in
+    let s = state_of c.args.hart.now (memory.bytes c.args.mem.now) (memory.writable c.args.mem.now) in
+    let i = c.args.instruction.now in (
+      [],
+      stands_accesses c.args.profile s r c.args.word (row_of i) (fields_of i) (forgotten s c.requires.forgot) c.requires.aligned c.requires.word
+          c.requires.is (λ a o at. not_true c.args.profile.misaligned c.if-not-profile.true at.allowed),
+      refl,
+    )
+
+-- it is a load or a store
+pub returns-in-Some-clause-step : goal.returns-in-Some-clause-step
+returns-in-Some-clause-step g c = λ r.
+    let memory = g.M.Memory in
+    let s = state_of c.args.hart.now (memory.bytes c.args.mem.now) (memory.writable c.args.mem.now) in
+    let i = c.args.instruction.now in
+    let row = row_of i in
+    let f = fields_of i in
+    let done = c.access_by_bytes in
+    let bytes = memory.bytes done.new.mem in
+    let writable = memory.writable done.new.mem in
+    let u = state_of done.new.hart bytes writable in
+    let t = state_of c.go_on.new.hart bytes writable in
+    let answer = c.answer_of-answer.result in
+    let a = c.in-AlignmentFault.field-0 in
+    let left : LeavesIf (anywhere_by (table row).action f s) s u (Some answer) =
+    subst (λ x. LeavesIf (anywhere_by (table row).action f s) s u x) (ap answer_if c.in-Some.is ∙ ap Some (sym c.answer_of-answer.ensures)) done.ensures.outcome in
+    (carried_out c.args.profile s t u r c.args.word row f a answer (anywhere_by (table row).action f s) (forgotten s c.requires.forgot) c.requires.aligned
+    c.requires.word c.requires.is (subst (λ e. Executes row f s s (Err e)) c.in-AlignmentFault.is c.requires.refused)
+    (not_false c.args.profile.misaligned c.if-not-profile.false) refl left
+    (c.go_on.ensures.moved bytes writable ∙ (λ k. moved (c.size_of.ensures k) u answer))).0
+
+pub returns-in-Some-clause-makes : goal.returns-in-Some-clause-makes
+returns-in-Some-clause-makes g c = λ r.
+    let memory = g.M.Memory in
+    let s = state_of c.args.hart.now (memory.bytes c.args.mem.now) (memory.writable c.args.mem.now) in
+    let i = c.args.instruction.now in
+    let row = row_of i in
+    let f = fields_of i in
+    let done = c.access_by_bytes in
+    let bytes = memory.bytes done.new.mem in
+    let writable = memory.writable done.new.mem in
+    let u = state_of done.new.hart bytes writable in
+    let t = state_of c.go_on.new.hart bytes writable in
+    let answer = c.answer_of-answer.result in
+    let a = c.in-AlignmentFault.field-0 in
+    let left : LeavesIf (anywhere_by (table row).action f s) s u (Some answer) =
+    subst (λ x. LeavesIf (anywhere_by (table row).action f s) s u x) (ap answer_if c.in-Some.is ∙ ap Some (sym c.answer_of-answer.ensures)) done.ensures.outcome in (
+      accesses_anywhere (table row).action f s,
+      (carried_out c.args.profile s t u r c.args.word row f a answer (anywhere_by (table row).action f s) (forgotten s c.requires.forgot) c.requires.aligned
+          c.requires.word c.requires.is (subst (λ e. Executes row f s s (Err e)) c.in-AlignmentFault.is c.requires.refused)
+          (not_false c.args.profile.misaligned c.if-not-profile.false) refl left
+          (c.go_on.ensures.moved bytes writable ∙ (λ k. moved (c.size_of.ensures k) u answer))).1,
+      done.ensures.makes,
+    )
+
+-- the exception is of another kind
+pub returns-in_default : goal.returns-in_default
+returns-in_default g c =
+    let memory = g.M.Memory in
+    let s = state_of c.args.hart.now (memory.bytes c.args.mem.now) (memory.writable c.args.mem.now) in
+    let i = c.args.instruction.now in
+    let same = forgotten s c.requires.forgot in
+    let none = no_bytes_other c.args.profile s c.args.word (row_of i) (fields_of i) c.args.fault same c.requires.refused c.in_default.not-AlignmentFault in
+    record {
+      step = λ r. stands c.args.profile s s r c.args.word (row_of i) (fields_of i) c.args.fault same c.requires.aligned c.requires.word c.requires.is
+          c.requires.refused refl none;
+      makes = λ r. (
+        [],
+        stands_accesses c.args.profile s r c.args.word (row_of i) (fields_of i) same c.requires.aligned c.requires.word c.requires.is none,
+        refl,
+      );
+      layout_kept = refl;
+      entry_zero = refl;
+    }

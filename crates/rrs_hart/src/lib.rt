@@ -1,0 +1,18 @@
+//! One hart with a profile: the kit's machine, and what the layers of the profile add to it.
+//!
+//! [step_hart] makes one step of a hart whose [HartProfile] says which layers it has. Where no layer
+//! takes part, the step is the kit's own. `specs/Harts.antt` says what a step is.
+//! [execute_atomic] executes an instruction of extension A (`specs/Atomics.antt`), and
+//! [access_by_bytes] a load or a store at any address (`specs/Anywhere.antt`).
+
+#![tactic(auto)]
+
+mod atomics;
+mod bytes;
+mod profile;
+mod step;
+
+pub use atomics::execute_atomic;
+pub use bytes::{ByteAccess, access_by_bytes};
+pub use profile::{HartProfile, decode_in};
+pub use step::step_hart;
