@@ -6,13 +6,14 @@ ghost use Rattle.rrs_commands.specs.Endings.{refused_status, signal_of, status_o
 
 use crate::call_names::call_name;
 use crate::faults::ToldFault;
-use crate::mistakes::tell_mistake;
+use crate::mistakes::{option_word, tell_mistake};
 use crate::subcommands::Subcommand;
 use rrs_cli::command::{Command, NamedFailure};
 use rrs_fast::Ending;
 use rrs_lib::instruction_executor::InstructionException;
 use rrs_linux::BRK;
 use rrs_reports::ShownName;
+use rrs_run_commands::executables::is_of_files;
 use rrs_run_commands::options::Task;
 use rrs_run_commands::refusal::{FileFault, HostFault, Refusal};
 use std::fmt::Display;
@@ -110,9 +111,13 @@ fn tell_refusal<H: Eprint>(
             let (path, fault) = (ShownName::of(path), ToldFault(fault));
             eprintln!(rt; "{name}: {path}: {fault}")
         }
-        Refusal::NoAddress(word) => {
+        Refusal::NoAddress(setting, word) => {
+            let (option, word) = (option_word(setting), ShownName::of(word));
+            eprintln!(rt; "{name}: {option}: {word} is no address, and no symbol of PROGRAM")
+        }
+        Refusal::NoFunction(word) => {
             let word = ShownName::of(word);
-            eprintln!(rt; "{name}: --from: {word} is no address, and no symbol of PROGRAM")
+            eprintln!(rt; "{name}: --only: {word} is no function of PROGRAM")
         }
         Refusal::Terminal => {
             eprintln!(rt;
@@ -124,6 +129,9 @@ fn tell_refusal<H: Eprint>(
         Refusal::Failed(failure) => rt.eprintln(NamedFailure { program, failure }),
     }
 }
+
+/// What is said of a call that `--files` serves.
+const FILES: &str = ": rrs exec --files FOLDER serves it to an executable";
 
 /// Writes on standard error which system calls a program made that are not served, a line for each
 /// number, and that it was refused memory. Where that can't be printed nothing is told.
@@ -138,8 +146,9 @@ pub fn tell_unserved<H: Eprint>(rt: &H, subcommand: &Subcommand, numbers: &[u32]
                 )
             }
             Some(call) => {
+                let hint = if is_of_files(*number) { FILES } else { "" };
                 eprintln!(rt;
-                    "{}: the system call {call} ({number}) is not served",
+                    "{}: the system call {call} ({number}) is not served{hint}",
                     program.name
                 )
             }

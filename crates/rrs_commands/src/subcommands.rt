@@ -118,10 +118,11 @@ const TRACE: Subcommand = Subcommand {
     command: Command {
         name: "rrs trace",
         usage: "rrs trace [--limit STEPS] [--memory BYTES] [--clock fixed] [--env NAME=VALUE] ..
-    [--from ADDRESS|SYMBOL] [--output FILE] PROGRAM [ARGUMENT] ..
+    [--from ADDRESS|SYMBOL] [--to ADDRESS|SYMBOL] [--only FUNCTION] [--steps N-M]
+    [--output FILE] PROGRAM [ARGUMENT] ..
        rrs trace --board [--limit STEPS] [--memory BYTES] [--input polled] [--raw]
            [--dtb FILE] [--append TEXT] [--symbols FILE] [--from ADDRESS|SYMBOL]
-           [--output FILE] PROGRAM",
+           [--to ADDRESS|SYMBOL] [--only FUNCTION] [--steps N-M] [--output FILE] PROGRAM",
     },
     summary: "runs a program as rrs exec does, and writes Spike's commit log",
     help: "Runs PROGRAM as rrs exec does, and writes a line for each step, as Spike's
@@ -129,7 +130,9 @@ const TRACE: Subcommand = Subcommand {
 mem with the address of its load, or of its store with the value. The lines go to
 standard error, or to FILE (--output), which has all of them or stays as it was. With
 --from they begin at the first step at an ADDRESS, which is decimal digits, or 0x and
-hexadecimal ones, or else the name of a SYMBOL. A load or a store at a misaligned
+hexadecimal ones, or else the name of a SYMBOL, and with --to they end with the next
+step at one. --only has those in the code of a FUNCTION, and --steps those from the
+Nth step of the run to the Mth. The run is the same. A load or a store at a misaligned
 address has one line, with its whole access.
 
 With --board PROGRAM is firmware, which runs as rrs board does, and the lines are those
@@ -156,8 +159,8 @@ const COVER: Subcommand = Subcommand {
     summary: "runs a program as rrs exec does, and says what the run covered",
     help: "Runs PROGRAM as rrs exec does, and writes what the run covered: of each function how
 many of its instructions were executed, how many it has, how often it was entered, and
-how many steps were made in it, those first that never ran. With --annotate it writes
-the disassembly, with a count before each instruction. It goes to standard error, or to
+how many steps were made in it, those first that ran. With --annotate it writes the
+disassembly, with a count before each instruction. It goes to standard error, or to
 FILE (--output), and with --callgrind the counts by function and by call go to a FILE
 in Callgrind's profile format, which callgrind_annotate and KCachegrind read.
 

@@ -21,6 +21,7 @@ use Rattle.rrs_board.specs.declared.effects.BoardEvent.{BoardEvent}
 use Rattle.rrs_board.specs.declared.runs.RecordedStep.{RecordedStep}
 use Rattle.rrs_reports.specs.CommitLogs.{committed_text, access_text, Entry, log_text}
 use Rattle.rrs_reports.specs.BoardRecords.{BoardWithRecords}
+use Rattle.rrs_reports.specs.declared.commit_log.LogWindow.{LogWindow}
 
 -- ---- an instruction that retired
 
@@ -84,6 +85,7 @@ step_text answer r = retired_text r.retired.insn r
 abbrev pub board_entry : RecordedStep → Entry
 board_entry s = record {
   pc = s.retired.retired.pc_rdata;
+  number = s.retired.retired.order;
   lines = step_text s.step.answer s.retired;
 }
 
@@ -92,7 +94,7 @@ board_entry s = record {
 -- A session at a terminal that ended so, and the log of its steps is what was written.
 pub record TracesBoard (limit : ℕ) (start : Board) (input rest before after : Option (List ℕ))
     (steps : ℕ) (event : Option BoardEvent) (new : Board)
-    (from : Option ℕ) (empty log : Option (List ℕ)) : Type 0 where
+    (window : LogWindow) (empty log : Option (List ℕ)) : Type 0 where
   pub records : List RecordedStep
   pub runs : BoardWithRecords limit start input rest before after steps event new records
-  pub written : Appends empty log (log_text from (map board_entry records))
+  pub written : Appends empty log (log_text window (map board_entry records))

@@ -1,7 +1,7 @@
 -- The commit log of Spike, the RISC-V ISA simulator: a line for each instruction that retires, with
 -- the hart, the privilege mode, the pc and the word, the register that it wrote with its value, and
 -- its load or store. Each line ends with a line feed, which is 10.
-use Rattle.std.specs.Prelude.{◌≡◌, ℕ, ◌==◌, nat_lt, if◌then◌else◌, Bool, true, false, List, [], ◌∷◌, ◌++◌, map, codes, Option, Some, None}
+use Rattle.std.specs.Prelude.{◌≡◌, ℕ, ◌==◌, ◌&&◌, nat_le, nat_lt, if◌then◌else◌, Bool, true, false, List, [], ◌∷◌, ◌++◌, map, codes, Option, Some, None}
 use Rattle.std.specs.Fmt.{decimal}
 use Rattle.std.specs.Io.KnownBytes.{Appends}
 use Rattle.rrs_lib.specs.Texts.{hexadecimal}
@@ -11,6 +11,9 @@ use Rattle.rrs_linux.specs.declared.Process.{Process}
 use Rattle.rrs_linux.specs.declared.host_writer.HostWriter.{HostWriter}
 use Rattle.rrs_linux.specs.declared.host_side.HostSide.{HostSide}
 use Rattle.rrs_reports.specs.Records.{RunsWithRecords}
+use Rattle.rrs_reports.specs.declared.commit_log.CodeRange.{CodeRange}
+use Rattle.rrs_reports.specs.declared.commit_log.StepRange.{StepRange}
+use Rattle.rrs_reports.specs.declared.commit_log.LogWindow.{LogWindow}
 use Rattle.rrs_reports.specs.declared.commit_log.CommitLog.{CommitLog}
 use Rattle.rrs_trace.specs.declared.traced.MemoryAccess.{MemoryAccess}
 
@@ -67,18 +70,59 @@ commit_text word r = committed_text 3 word r ++ access_text r.mem
 
 -- ---- what a step has in a log
 
--- a pc, and the lines
+-- a pc, how many steps were made before it, and the lines
 pub record Entry : Type 0 where
   pub pc : ℕ
+  pub number : ℕ
   pub lines : List ℕ
 
 -- of a step of a process: a line, if its word was committed
 abbrev pub entry_of : Retired → Entry
-entry_of r = record { pc = r.pc_rdata; lines = line_of (committed r) }
+entry_of r = record { pc = r.pc_rdata; number = r.order; lines = line_of (committed r) }
   where
     line_of : Option ℕ → List ℕ
     line_of None = []
     line_of (Some word) = commit_text word r
+
+-- ---- the log of a run
+
+-- the entries from the first one at an address on, if one is asked for
+abbrev pub from_first : Option ℕ → List Entry → List Entry
+from_first None entries = entries
+from_first (Some from) [] = []
+from_first (Some from) (e ∷ entries) =
+    if from == e.pc then e ∷ entries else from_first (Some from) entries
+
+-- those up to the first one at an address, with it, if one is asked for
+abbrev pub up_to : Option ℕ → List Entry → List Entry
+up_to None entries = entries
+up_to (Some to) [] = []
+up_to (Some to) (e ∷ entries) = if to == e.pc then e ∷ [] else e ∷ up_to (Some to) entries
+
+-- an address is in the code whose steps alone have lines
+abbrev pub in_code : Option CodeRange → ℕ → Bool
+in_code None pc = true
+in_code (Some range) pc = nat_le range.start pc && nat_lt pc range.end
+
+-- a step before which so many were made is one of those that alone have lines
+abbrev pub in_steps : Option StepRange → ℕ → Bool
+in_steps None number = true
+in_steps (Some range) number = nat_le range.before number && nat_lt number range.until
+
+abbrev pub has_lines : Option CodeRange → Option StepRange → Entry → Bool
+has_lines only steps e = in_code only e.pc && in_steps steps e.number
+
+-- the lines of the entries that have some
+abbrev pub lines_of : Option CodeRange → Option StepRange → List Entry → List ℕ
+lines_of only steps [] = []
+lines_of only steps (e ∷ entries) =
+    (if has_lines only steps e then e.lines else []) ++ lines_of only steps entries
+
+-- The log of these entries: the lines of those from the first one at an address on, up to the next
+-- one at another, that are in the code and have the numbers that are asked for.
+abbrev pub log_text : LogWindow → List Entry → List ℕ
+log_text w entries =
+    if w.is_over then [] else lines_of w.only w.steps (up_to w.to (from_first w.from entries))
 
 -- ---- the watcher that writes the log
 
@@ -87,36 +131,43 @@ abbrev pub still_from : Option ℕ → ℕ → Option ℕ
 still_from None pc = None
 still_from (Some from) pc = if from == pc then None else Some from
 
--- these lines, if lines are written by now
-abbrev pub lines_from : Option ℕ → List ℕ → List ℕ
-lines_from (Some from) lines = []
-lines_from None lines = lines
+-- a step is the last one that has lines, where those are written from no later address on
+abbrev pub is_last : Option ℕ → Option ℕ → ℕ → Bool
+is_last (Some from) to pc = false
+is_last None None pc = false
+is_last None (Some to) pc = to == pc
+
+-- what a step at an address leaves of a window
+abbrev pub moved : LogWindow → ℕ → LogWindow
+moved w pc = record w {
+  from = still_from w.from pc;
+  is_over = if w.is_over then true else is_last (still_from w.from pc) w.to pc;
+}
+
+-- lines are written from no later address on
+abbrev pub is_reached : Option ℕ → Bool
+is_reached (Some from) = false
+is_reached None = true
+
+-- the lines of a step are written
+abbrev pub shows : LogWindow → Entry → Bool
+shows w e =
+    if w.is_over then false else is_reached (still_from w.from e.pc) && has_lines w.only w.steps e
 
 -- What a step makes of the watcher: its lines are written, unless a write failed by then, and then
 -- the watcher is broken. It writes to what it wrote to before.
 pub record Logs {W : Type 0} (contents : W → Option (List ℕ)) (old : CommitLog W) (e : Entry)
     (new : CommitLog W) : Type 0 where
   pub same_out : new.out.ghost_name ≡ old.out.ghost_name
-  pub from : new.from ≡ still_from old.from e.pc
+  pub window : new.window ≡ moved old.window e.pc
   pub stays_broken : old.is_broken ≡ true → new.is_broken ≡ true
   pub written : new.is_broken ≡ false → Appends (contents old.out.now) (contents new.out.now)
-      (lines_from (still_from old.from e.pc) e.lines)
+      (if shows old.window e then e.lines else [])
 
 abbrev pub wants_lines : {W : Type 0} → CommitLog W → Bool
 wants_lines log = if log.is_broken then false else true
 
--- ---- the log of a run
-
--- the address from which on lines are written, after these entries
-abbrev pub from_after : Option ℕ → List Entry → Option ℕ
-from_after from [] = from
-from_after from (e ∷ entries) = from_after (still_from from e.pc) entries
-
--- the lines of these entries, from the first one at an address on, if one is asked for
-abbrev pub log_text : Option ℕ → List Entry → List ℕ
-log_text from [] = []
-log_text from (e ∷ entries) =
-    lines_from (still_from from e.pc) e.lines ++ log_text (still_from from e.pc) entries
+-- ---- a run with its log
 
 -- A run is one of `execute_process` whose misaligned addresses are not strict, with so many steps,
 -- and its log is what was written.
@@ -124,8 +175,9 @@ pub record TracesProcess {R W E : Type 0} (remaining : R → Option (List ℕ))
     (contents : W → Option (List ℕ)) (errors_of : E → Option (List ℕ))
     (file : List ℕ) (arguments variables : List (List ℕ)) (wanted limit : ℕ)
     (old new : Process R (HostWriter W) (HostWriter E) HostSide)
-    (steps pc : ℕ) (ending : Ending) (from : Option ℕ) (before after : Option (List ℕ)) : Type 0 where
+    (steps pc : ℕ) (ending : Ending) (window : LogWindow) (before after : Option (List ℕ))
+    : Type 0 where
   pub records : List Retired
   pub runs : RunsWithRecords remaining contents errors_of file arguments variables wanted limit
       old new steps pc ending records
-  pub written : Appends before after (log_text from (map entry_of records))
+  pub written : Appends before after (log_text window (map entry_of records))

@@ -6,7 +6,7 @@ ghost use Rattle.rrs_board.specs.Effects.{waits_for_input};
 ghost use Rattle.rrs_reports.specs.BoardLogs.{csr_text, exception_name, interrupt_name, trap_text, has_value, value_line, value_text, retired_text, board_entry, TracesBoard};
 
 use crate::commit_log::{
-    CommitLine, CommitLog, LINE_CAPACITY, push_access, push_committed, push_word,
+    CommitLine, CommitLog, LINE_CAPACITY, LogWindow, push_access, push_committed, push_word,
 };
 use arrayvec::ArrayString;
 use itoa::Buffer;
@@ -152,9 +152,11 @@ impl<'a, W: Write> BoardWatcher for CommitLog<'a, W> {
     ghost wants = { wants_lines };
 
     fn see_step(&mut self, step: &RecordedStep) {
-        if self.reaches(step.retired.retired.pc_rdata) {
-            self.write(step_lines(step).as_str());
+        let retired = &step.retired.retired;
+        if !self.shows(retired.pc_rdata, retired.order) || self.is_broken {
+            return;
         }
+        self.write(step_lines(step).as_str());
     }
 
     fn wants_more(&self) -> bool {
@@ -172,8 +174,8 @@ pub enum BoardTraceError {
 }
 
 /// Runs a board as [run_at_terminal](rrs_board::run_at_terminal) does, and writes the commit log:
-/// a line for each instruction that retires, and the lines of each exception and interrupt, from the
-/// first step at the address `from` on, if there is one.
+/// a line for each instruction that retires, and the lines of each exception and interrupt, of the
+/// steps that the window has.
 ///
 /// The clauses: the log has the lines of the steps of the session (`traced`), and where the input is
 /// polled no session ends at a wait for it (`polled`).
@@ -187,13 +189,13 @@ pub fn trace_board<R: Read, W: Write, O: Write>(
     is_polled: bool,
     input: &mut R,
     output: &mut W,
-    from: Option<u32>,
+    window: LogWindow,
     out: &mut O,
 ) -> Result<BoardEnd, BoardTraceError>
     ensures traced { IfOk result (λ end. TracesBoard limit board.old
         (R.remaining input.old) (R.remaining input.new)
         (W.contents output.old) (W.contents output.new) end.steps end.event board.new
-        from (O.contents out.old) (O.contents out.new)) }
+        window (O.contents out.old) (O.contents out.new)) }
     ensures polled { is_polled ≡ true → IfOk result (λ end.
         end.event ≡ Some BoardEvent.NothingWakes
         → waits_for_input board.new.memory.devices ≡ false) }
@@ -201,7 +203,7 @@ pub fn trace_board<R: Read, W: Write, O: Write>(
     let mut runs = WatchedRuns {
         watcher: CommitLog {
             out,
-            from,
+            window,
             is_broken: false,
         },
         is_first: false,

@@ -130,42 +130,127 @@ pub fn commit_line(word: u32, retired: &Retired) -> CommitLine
     line
 }
 
+/// The addresses from one to before another.
+#[derive(Clone, Copy, Debug, PartialEq)]
+pub struct CodeRange {
+    /// The first.
+    pub start: u32,
+    /// The one after the last.
+    pub end: u32,
+}
+
+/// The steps of a run after so many, up to this number of them.
+#[derive(Clone, Copy, Debug, PartialEq)]
+pub struct StepRange {
+    /// How many steps are before them.
+    pub before: u64,
+    /// How many steps there are with them.
+    pub until: u64,
+}
+
+/// Which steps of a run have lines in a log: those from the first one at an address on, up to the
+/// next one at another, with both; and of these those in some code, and those of some numbers.
+#[derive(Clone, Copy, Debug, PartialEq)]
+pub struct LogWindow {
+    /// The address from which on lines are written, if one is asked for and was not reached yet.
+    pub from: Option<u32>,
+    /// The address up to which they are written, if one is asked for.
+    pub to: Option<u32>,
+    /// Whether that was reached. No line is written then.
+    pub is_over: bool,
+    /// The code whose steps alone have lines, if it is not all.
+    pub only: Option<CodeRange>,
+    /// The steps that alone have lines, if not all have.
+    pub steps: Option<StepRange>,
+}
+
+impl LogWindow {
+    ghost use Rattle.std.specs.Prelude.{◌≡◌, ℕ, List};
+    ghost use Rattle.rrs_reports.specs.CommitLogs.{in_code, in_steps, moved, shows};
+
+    /// All steps.
+    pub const ALL: LogWindow = LogWindow {
+        from: None,
+        to: None,
+        is_over: false,
+        only: None,
+        steps: None,
+    };
+
+    /// Whether a step at an address is in the code whose steps have lines.
+    #[inline(always)]
+    fn has_code(&self, pc: u32) -> bool
+        ensures { result ≡ in_code self.now.only pc }
+    {
+        match self.only {
+            Some(range) => range.start <= pc && pc < range.end,
+            None => true,
+        }
+    }
+
+    /// Whether a step before which so many were made is one of those that have lines.
+    #[inline(always)]
+    fn has_number(&self, number: u64) -> bool
+        ensures { result ≡ in_steps self.now.steps number }
+    {
+        match self.steps {
+            Some(range) => range.before <= number && number < range.until,
+            None => true,
+        }
+    }
+
+    /// Whether the lines of a step at an address are written, before which so many steps were made,
+    /// and then goes on behind it.
+    #[inline(always)]
+    fn shows(&mut self, pc: u32, number: u64) -> bool
+        ensures window { self.new ≡ moved self.old pc }
+        ensures shown { (lines : List ℕ)
+            → result ≡ shows self.old (record { pc = pc; number = number; lines = lines }) }
+    {
+        if self.from == Some(pc) {
+            self.from = None;
+        }
+        if self.is_over || self.from.is_some() {
+            return false;
+        }
+        if self.to == Some(pc) {
+            self.is_over = true;
+        }
+        self.has_code(pc) && self.has_number(number)
+    }
+}
+
 /// A watcher that writes the commit log of a run.
 #[derive(Drop)]
 pub struct CommitLog<'a, W: Write> {
     /// What is written to.
     pub out: &'a mut W,
-    /// The address from which on lines are written, if it was not reached yet.
-    pub from: Option<u32>,
+    /// Which steps from here on have lines.
+    pub window: LogWindow,
     /// Whether a write failed. Nothing is written from then on, and the run ends.
     pub is_broken: bool,
 }
 
 impl<'a, W: Write> CommitLog<'a, W> {
-    ghost use Rattle.std.specs.Prelude.{◌≡◌, ◌≢◌, ◌⊎◌, None, Some, true, false};
-    ghost use Rattle.std.specs.Bool.{OnTrue, OnFalse};
+    ghost use Rattle.std.specs.Prelude.{◌≡◌, ℕ, List, true, false};
     ghost use Rattle.std.specs.Io.KnownBytes.{Appends};
-    ghost use Rattle.rrs_reports.specs.CommitLogs.{Logs, entry_of, still_from};
+    ghost use Rattle.rrs_reports.specs.CommitLogs.{Logs, entry_of, moved, shows};
 
-    /// Whether the lines of a step at an address are written.
+    /// Whether the lines of a step at an address are to be written, before which so many steps were
+    /// made. They are written where the log is not broken.
     #[inline(always)]
-    pub(crate) fn reaches(&mut self, pc: u32) -> bool
-        ensures log { self.new ≡ record self.old { from = still_from self.old.from pc } }
-        ensures writes { OnTrue result
-            ((self.new.from ≡ None) × (self.old.is_broken ≡ false)) }
-        ensures skips { OnFalse result
-            ((self.new.from ≢ None) ⊎ (self.old.is_broken ≡ true)) }
+    pub(crate) fn shows(&mut self, pc: u32, number: u64) -> bool
+        ensures log { self.new ≡ record self.old { window = moved self.old.window pc } }
+        ensures shown { (lines : List ℕ)
+            → result ≡ shows self.old.window (record { pc = pc; number = number; lines = lines }) }
     {
-        if self.from == Some(pc) {
-            self.from = None;
-        }
-        self.from.is_none() && !self.is_broken
+        self.window.shows(pc, number)
     }
 
     /// Writes lines. Where that fails the log is broken.
     pub(crate) fn write(&mut self, lines: &str)
         ensures same_out { self.new.out.ghost_name ≡ self.old.out.ghost_name }
-        ensures from { self.new.from ≡ self.old.from }
+        ensures window { self.new.window ≡ self.old.window }
         ensures broken { self.old.is_broken ≡ true → self.new.is_broken ≡ true }
         ensures written { self.new.is_broken ≡ false
             → Appends (W.contents self.old.out.now) (W.contents self.new.out.now) lines.now }
@@ -179,7 +264,7 @@ impl<'a, W: Write> CommitLog<'a, W> {
     fn see(&mut self, retired: &Retired)
         ensures { Logs W.contents self.old (entry_of retired.now) self.new }
     {
-        if !self.reaches(retired.pc_rdata) {
+        if !self.shows(retired.pc_rdata, retired.order) || self.is_broken {
             return;
         }
         if let Some(word) = committed_word(retired) {
@@ -224,9 +309,8 @@ pub enum TraceError {
 }
 
 /// Runs a file's bytes as [execute_process](rrs_exec::execute_process) does where misaligned
-/// addresses are not strict, and writes the commit log: a line for each step, from the first one at
-/// the address `from` on, if there is one. A load or a store at a misaligned address has its whole
-/// access there.
+/// addresses are not strict, and writes the commit log: a line for each step that the window has. A
+/// load or a store at a misaligned address has its whole access there.
 ///
 /// # Errors
 ///
@@ -239,18 +323,18 @@ pub fn trace_process<R: Read, W: Write, E: Write, O: Write, P: Progress>(
     wanted: u64,
     limit: u64,
     environment: &mut Linux<R, W, E>,
-    from: Option<u32>,
+    window: LogWindow,
     out: &mut O,
     progress: &mut P,
 ) -> Result<ProcessEnd, TraceError>
     ensures traced { IfOk result (λ end. TracesProcess R.remaining W.contents E.contents
         file.now (map string_bytes arguments.now) (map string_bytes variables.now) wanted limit
         environment.old environment.new end.steps end.pc end.ending
-        from (O.contents out.old) (O.contents out.new)) }
+        window (O.contents out.old) (O.contents out.new)) }
 {
     let mut log = CommitLog {
         out,
-        from,
+        window,
         is_broken: false,
     };
     let run = watch_process(

@@ -30,7 +30,8 @@ pub use callgrind::write_callgrind;
 pub use calls::{Call, Calls};
 pub use code::Code;
 pub use commit_log::{
-    CommitLine, CommitLog, TraceError, commit_line, committed_word, trace_process,
+    CodeRange, CommitLine, CommitLog, LogWindow, StepRange, TraceError, commit_line,
+    committed_word, trace_process,
 };
 pub use coverage::Coverage;
 pub use disassembly::{write_annotated, write_disassembly};

@@ -90,8 +90,7 @@ fn write_functions<W: Write>(out: &mut Pieces<'_, W>, profile: &Profile<'_, '_>,
     }
 }
 
-/// Writes what a run covered: a line for each function, those that did not run first, and else in
-/// the order of their addresses, with how many of its instructions were executed, how many it has,
+/// Writes what a run covered: a line for each function, those that ran first, and else in the order of their addresses, with how many of its instructions were executed, how many it has,
 /// how often it was entered, and how many steps were made in it; a line for the code that belongs
 /// to no function, if there is some; one for the steps outside of the code, if some were made; and
 /// the sums.
@@ -102,8 +101,8 @@ fn write_functions<W: Write>(out: &mut Pieces<'_, W>, profile: &Profile<'_, '_>,
 pub fn write_summary<W: Write>(out: &mut W, profile: &Profile<'_, '_>) -> io::Result<()> {
     let mut out = Pieces::new(out);
     out.text("executed       of      entered        steps  function\n");
-    write_functions(&mut out, profile, false);
     write_functions(&mut out, profile, true);
+    write_functions(&mut out, profile, false);
     let rest = profile.covered(0);
     if rest.words > 0 {
         write_line(&mut out, rest, b"(no function)");

@@ -5,7 +5,7 @@ use Rattle.rrs_run_commands.specs.declared.options.Task.TheVariants.{Run, Execut
 use Rattle.rrs_run_commands.specs.declared.options.Switch.{Switch}
 use Rattle.rrs_run_commands.specs.declared.options.Switch.TheVariants.{Quiet, Raw, Strict, Annotate, Gnu, Listed, Rars, Anywhere}
 use Rattle.rrs_run_commands.specs.declared.options.Setting.{Setting}
-use Rattle.rrs_run_commands.specs.declared.options.Setting.TheVariants.{Limit, Memory, From, Output, Callgrind, Input, Clock, Random, Variable, Files, ReadFiles, Tree, Append, Symbols, Text, Data, Executable}
+use Rattle.rrs_run_commands.specs.declared.options.Setting.TheVariants.{Limit, Memory, From, To, Only, Steps, Output, Callgrind, Input, Clock, Random, Variable, Files, ReadFiles, Tree, Append, Symbols, Text, Data, Executable}
 
 -- ---- options without a value
 
@@ -57,6 +57,9 @@ abbrev pub setting_word : Setting → List ℕ
 setting_word Limit = codes "--limit"
 setting_word Memory = codes "--memory"
 setting_word From = codes "--from"
+setting_word To = codes "--to"
+setting_word Only = codes "--only"
+setting_word Steps = codes "--steps"
 setting_word Output = codes "--output"
 setting_word Callgrind = codes "--callgrind"
 setting_word Input = codes "--input"
@@ -88,6 +91,12 @@ has_setting Cover Variable = true
 has_setting Debug Variable = true
 has_setting Trace From = true
 has_setting TraceBoard From = true
+has_setting Trace To = true
+has_setting TraceBoard To = true
+has_setting Trace Only = true
+has_setting TraceBoard Only = true
+has_setting Trace Steps = true
+has_setting TraceBoard Steps = true
 has_setting task Output = is_watched task
 has_setting Cover Callgrind = true
 has_setting CoverBoard Callgrind = true

@@ -5,7 +5,8 @@
 --       [--strict-alignment] [--clock fixed] [--random host] [--env NAME=VALUE] .. [--raw]
 --       PROGRAM [ARGUMENT] ..
 --   rrs trace [--limit STEPS] [--memory BYTES] [--clock fixed] [--env NAME=VALUE] ..
---       [--from ADDRESS|SYMBOL] [--output FILE] PROGRAM [ARGUMENT] ..
+--       [--from ADDRESS|SYMBOL] [--to ADDRESS|SYMBOL] [--only FUNCTION] [--steps N-M]
+--       [--output FILE] PROGRAM [ARGUMENT] ..
 --   rrs cover [--limit STEPS] [--memory BYTES] [--clock fixed] [--env NAME=VALUE] .. [--annotate]
 --       [--callgrind FILE] [--output FILE] PROGRAM [ARGUMENT] ..
 --   rrs as [--gnu | --list] [-o OUTPUT] [--rars] [-Ttext ADDRESS] [-Tdata ADDRESS]
@@ -15,7 +16,8 @@
 --   rrs board [--limit STEPS] [--memory BYTES] [--input polled] [--raw] [--dtb FILE]
 --       [--append TEXT] PROGRAM
 --   rrs trace --board [--limit STEPS] [--memory BYTES] [--input polled] [--raw] [--dtb FILE]
---       [--append TEXT] [--symbols FILE] [--from ADDRESS|SYMBOL] [--output FILE] PROGRAM
+--       [--append TEXT] [--symbols FILE] [--from ADDRESS|SYMBOL] [--to ADDRESS|SYMBOL]
+--       [--only FUNCTION] [--steps N-M] [--output FILE] PROGRAM
 --   rrs cover --board [--limit STEPS] [--memory BYTES] [--input polled] [--raw] [--dtb FILE]
 --       [--append TEXT] [--symbols FILE] [--annotate] [--callgrind FILE] [--output FILE] PROGRAM
 --   rrs gdb [--memory BYTES] [--input FILE] [--env NAME=VALUE] .. [--raw] PROGRAM [ARGUMENT] ..
@@ -26,14 +28,15 @@
 -- ARGUMENTs are its own. --env may stand 16 times.
 use Rattle.std.specs.Prelude.{ℕ, ◌<◌, ◌≤◌, ◌≡◌, ◌≢◌, ◌⊎◌, List, [], ◌∷◌, ◌++◌, length, take, Bool, true, false, not, Option, Some, None, IsSome, Result, Ok, Err, map, string_bytes, option_map, codes}
 use Rattle.rrs_cli.specs.Limits.{limit_in}
-use Rattle.rrs_run_commands.specs.Words.{IsNumber, IsSize, IsAddress, IsDashed, IsVariable, HasValue, ends_options, name_in, value_in}
+use Rattle.rrs_run_commands.specs.Words.{IsNumber, IsSize, IsAddress, IsStepRange, IsDashed, IsVariable, HasValue, ends_options, name_in, value_in}
 use Rattle.rrs_run_commands.specs.Options.{has_setting, has_switch, most_memory, most_variables, setting_word, switch_word, usual_limit}
+use Rattle.rrs_reports.specs.declared.commit_log.StepRange.{StepRange}
 use Rattle.rrs_run_commands.specs.declared.options.Task.{Task}
 use Rattle.rrs_run_commands.specs.declared.options.Task.TheVariants.{Run, Execute, Trace, Cover, Debug, DebugBoard}
 use Rattle.rrs_run_commands.specs.declared.options.Switch.{Switch}
 use Rattle.rrs_run_commands.specs.declared.options.Switch.TheVariants.{Quiet, Raw, Strict, Annotate, Gnu, Listed, Rars, Anywhere}
 use Rattle.rrs_run_commands.specs.declared.options.Setting.{Setting}
-use Rattle.rrs_run_commands.specs.declared.options.Setting.TheVariants.{Limit, Memory, From, Output, Callgrind, Input, Clock, Random, Variable, Files, ReadFiles, Tree, Append, Symbols, Text, Data, Executable}
+use Rattle.rrs_run_commands.specs.declared.options.Setting.TheVariants.{Limit, Memory, From, To, Only, Steps, Output, Callgrind, Input, Clock, Random, Variable, Files, ReadFiles, Tree, Append, Symbols, Text, Data, Executable}
 use Rattle.rrs_run_commands.specs.declared.refusal.Mistake.{Mistake}
 use Rattle.rrs_run_commands.specs.declared.requests.Form.{Form}
 use Rattle.rrs_run_commands.specs.declared.requests.Request.{Request}
@@ -59,6 +62,9 @@ pub record Wanted : Type 0 where
   pub text_start : Option ℕ
   pub data_start : Option ℕ
   pub from : Option (List ℕ)
+  pub to : Option (List ℕ)
+  pub only : Option (List ℕ)
+  pub logged : Option StepRange
   pub output : Option (List ℕ)
   pub callgrind : Option (List ℕ)
   pub input : Option (List ℕ)
@@ -89,6 +95,9 @@ unasked task = record {
   text_start = None;
   data_start = None;
   from = None;
+  to = None;
+  only = None;
+  logged = None;
   output = None;
   callgrind = None;
   input = None;
@@ -123,6 +132,9 @@ wanted_of request = record {
   text_start = request.text_start;
   data_start = request.data_start;
   from = option_map (λ word. word.now) request.from;
+  to = option_map (λ word. word.now) request.to;
+  only = option_map (λ word. word.now) request.only;
+  logged = request.logged;
   output = option_map (λ path. path.now) request.output;
   callgrind = option_map (λ path. path.now) request.callgrind;
   input = option_map (λ path. path.now) request.input;
@@ -200,6 +212,10 @@ Sets task Limit value old new = (n : ℕ) × IsNumber value n × (new ≡ record
 Sets task Memory value old new =
     (n : ℕ) × IsSize value n × (n ≤ most_memory task) × (new ≡ record old { memory = Some n })
 Sets task From value old new = new ≡ record old { from = Some value }
+Sets task To value old new = new ≡ record old { to = Some value }
+Sets task Only value old new = new ≡ record old { only = Some value }
+Sets task Steps value old new =
+    (range : StepRange) × IsStepRange value range × (new ≡ record old { logged = Some range })
 Sets task Output value old new = new ≡ record old { output = Some value }
 Sets task Callgrind value old new = new ≡ record old { callgrind = Some value }
 Sets Debug Input value old new = new ≡ record old { input = Some value }
@@ -243,6 +259,10 @@ RefusesValue task Limit value old fault =
     ((n : ℕ) → IsNumber value n → ⊥) × (fault ≡ Wrong Limit value)
 RefusesValue task Memory value old fault = RefusesMemory task value fault
 RefusesValue task From value old fault = ⊥
+RefusesValue task To value old fault = ⊥
+RefusesValue task Only value old fault = ⊥
+RefusesValue task Steps value old fault =
+    ((range : StepRange) → IsStepRange value range → ⊥) × (fault ≡ Wrong Steps value)
 RefusesValue task Output value old fault = ⊥
 RefusesValue task Callgrind value old fault = ⊥
 RefusesValue Debug Input value old fault = ⊥

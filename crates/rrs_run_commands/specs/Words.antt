@@ -1,7 +1,8 @@
 -- What the words of a command line are, as lists of bytes.
-use Rattle.std.specs.Prelude.{ℕ, ◌^◌, ◌<◌, ◌≤◌, ◌≡◌, ◌-◌, ◌*◌, ◌%◌, ◌⊎◌, ◌==◌, List, length, take, drop, codes, slice_index}
+use Rattle.std.specs.Prelude.{ℕ, ◌+◌, ◌^◌, ◌<◌, ◌≤◌, ◌≡◌, ◌-◌, ◌*◌, ◌%◌, ◌⊎◌, ◌==◌, List, length, take, drop, codes, slice_index}
 use Rattle.std.specs.List.{position_or_len, before_first, after_first}
 use Rattle.std.specs.Str.Parse.{IsNumeral, digits_value}
+use Rattle.rrs_reports.specs.declared.commit_log.StepRange.{StepRange}
 
 -- A number is decimal digits, or `0x` and hexadecimal ones, one at least, and below 2^64.
 abbrev pub IsNumber : List ℕ → ℕ → Type 0
@@ -32,6 +33,13 @@ pub record IsAddress (word : List ℕ) (address : ℕ) : Type 0 where
   pub eight : length (drop 2 word) ≤ 8
   pub value : address ≡ digits_value 16 (drop 2 word)
   pub aligned : address % 4 ≡ 0
+
+-- Steps are N-M: the number of the first one, from 1 on, and that of the last one.
+pub record IsStepRange (word : List ℕ) (range : StepRange) : Type 0 where
+  pub first : IsNumber (before_first (λ byte. byte == 45) word) (range.before + 1)
+  pub last : IsNumber (after_first (λ byte. byte == 45) word) range.until
+  pub has_dash : position_or_len (λ byte. byte == 45) word < length word
+  pub ordered : range.before < range.until
 
 -- A word is an option where a minus is its first byte and not the only one.
 abbrev pub IsDashed : List ℕ → Type 0

@@ -1,5 +1,6 @@
 //! `rrs board`: firmware on a board with a hart of machine mode.
 
+use crate::executables::{place_of, tell_place};
 use crate::files::{Noting, STANDARD_INPUT, STANDARD_OUTPUT, read_program};
 use crate::options::{Task, most_memory, usual_memory};
 use crate::refusal::{FileFault, HostFault, Refusal, no_firmware, out_of_memory};
@@ -9,7 +10,9 @@ use rrs_board::{
     Board, BoardEnd, BoardError, BoardEvent, PlainRuns, Profile, TerminalError, device_tree,
     run_at_terminal,
 };
+use rrs_elf::Addresses;
 use rrs_fast::Ending;
+use rrs_machine::Mode;
 use std::io::{Read, Write};
 use std::rt::Files;
 
@@ -135,36 +138,83 @@ pub(crate) fn board_with<'a, H: Files + AllocGlobal>(
     }
 }
 
-/// How the run ended. A `wfi` that nothing wakes and a hart that is dead are told on standard
-/// error, after the name of the program: where it is, and of a `wfi` after how many steps. At a
-/// restart the status is 0.
-pub(crate) fn ending_of<H: Eprint>(rt: &H, name: &str, board: &Board, end: BoardEnd) -> Ending {
+/// The executable with the names of the functions that a board runs, whose segments are at these of
+/// their addresses. Other bytes name none.
+#[derive(Clone, Copy)]
+pub(crate) struct Names<'a> {
+    pub file: &'a [u8],
+    pub addresses: Addresses,
+}
+
+/// The names that firmware has itself: those of an executable, and none of a raw image.
+pub(crate) fn own_names<'a>(request: Request<'_>, file: &'a [u8]) -> Names<'a> {
+    Names {
+        file: if request.is_raw { b"" } else { file },
+        addresses: Addresses::Physical,
+    }
+}
+
+/// How the run ended. Unless the finisher ended it, it is told on standard error, after the name of
+/// the program, where it was, in which mode, after how many steps, and what the CSRs of its latest
+/// trap have; and why it ended, if that is not the limit. At a restart the status is 0.
+pub(crate) fn ending_of<H: Eprint>(
+    rt: &H,
+    name: &str,
+    board: &Board,
+    names: Names<'_>,
+    end: BoardEnd,
+) -> Ending {
     match end.event {
         Some(BoardEvent::Finished(status)) => Ending::Exit(status),
+        Some(BoardEvent::Restarts) => Ending::Exit(0),
+        _ => {
+            tell_board(rt, name, board, names, end);
+            tell_stuck(rt, name, board, end)
+        }
+    }
+}
+
+/// Says where a board is, in which mode, and what the CSRs of its latest trap have. Where it waits
+/// that is at the `wfi`.
+fn tell_board<H: Eprint>(rt: &H, name: &str, board: &Board, names: Names<'_>, end: BoardEnd) {
+    let pc = match end.event {
+        Some(BoardEvent::NothingWakes) => board.hart.pc.wrapping_sub(4),
+        _ => board.hart.pc,
+    };
+    let mode = match board.csrs.mode() {
+        Mode::Machine => ", in machine mode",
+        Mode::User => ", in user mode",
+    };
+    let place = place_of(names.file, names.addresses, pc);
+    tell_place(rt, name, place, pc, mode, end.steps);
+    let (cause, pc, value) = (board.csrs.mcause, board.csrs.mepc, board.csrs.mtval);
+    let _ = eprintln!(rt; "{name}: mcause 0x{cause:08x}, mepc 0x{pc:08x}, mtval 0x{value:08x}");
+}
+
+/// How the run ended that the finisher did not end, where a `wfi` that nothing wakes and a hart that
+/// is dead are told.
+fn tell_stuck<H: Eprint>(rt: &H, name: &str, board: &Board, end: BoardEnd) -> Ending {
+    let (pc, steps) = (board.hart.pc, end.steps);
+    let _ = match end.event {
         Some(BoardEvent::NothingWakes) => {
-            let (pc, steps) = (board.hart.pc.wrapping_sub(4), end.steps);
-            let _ = eprintln!(rt;
+            let pc = pc.wrapping_sub(4);
+            eprintln!(rt;
                 "{name}: wfi at pc 0x{pc:08x} waits, and nothing can wake it, after {steps} steps"
-            );
-            Ending::Exit(NOTHING_WAKES)
+            )
         }
         Some(BoardEvent::Spins) => {
-            let pc = board.hart.pc;
-            let _ = eprintln!(rt;
+            eprintln!(rt;
                 "{name}: the jump to itself at pc 0x{pc:08x} never ends: no interrupt can be taken"
-            );
-            Ending::Exit(NOTHING_WAKES)
+            )
         }
         Some(BoardEvent::LacksHandler) => {
-            let pc = board.hart.pc;
-            let _ = eprintln!(rt;
+            eprintln!(rt;
                 "{name}: a trap went to 0x{pc:08x}, where mtvec points, and no memory is there"
-            );
-            Ending::Exit(NOTHING_WAKES)
+            )
         }
-        Some(BoardEvent::Restarts) => Ending::Exit(0),
-        _ => Ending::Limit,
-    }
+        _ => return Ending::Limit,
+    };
+    Ending::Exit(NOTHING_WAKES)
 }
 
 /// Why a board was stopped at its terminal, by why a read of the input and a write of the output
@@ -213,7 +263,13 @@ pub fn run_board<'a, H: Files + Eprint + AllocGlobal, R: Read, W: Write>(
             Ok(end) if end.event == Some(BoardEvent::Restarts) => {
                 left = left.saturating_sub(end.steps);
             }
-            Ok(end) => return Ok(ending_of(rt, "rrs board", &board, end)),
+            Ok(end) => {
+                let earlier = request.limit.saturating_sub(left);
+                let steps = earlier.saturating_add(end.steps);
+                let names = own_names(request, &file);
+                let end = BoardEnd { steps, ..end };
+                return Ok(ending_of(rt, "rrs board", &board, names, end));
+            }
             Err(error) => return Err(stopped(error, input.fault, output.fault)),
         }
     }

@@ -1,6 +1,6 @@
 //! `rrs cover`: what a run of a program, or of a board, covered.
 
-use crate::boards::{board_with, ending_of, stopped};
+use crate::boards::{Names, board_with, ending_of, own_names, stopped};
 use crate::disassembling::{code_of, flushed};
 use crate::executables::{memory_for, tell};
 use crate::files::{Noting, STANDARD_ERROR, buffered, read_program};
@@ -130,7 +130,7 @@ fn cover_code<'a, H: Files + Eprint + AllocGlobal, R: Read, W: Write, E: Write, 
         Ok((end, profile)) => {
             match write_reports(rt.alloc(), request, &profile, &mut outputs, errors) {
                 Ok(()) => {
-                    tell(rt, "rrs cover", file, &end);
+                    tell(rt, "rrs cover", file, environment.heap, &end);
                     Ok(end.ending)
                 }
                 Err(refusal) => Err(refusal),
@@ -159,14 +159,19 @@ pub fn cover_firmware<'a, H: Files + Eprint + AllocGlobal, R: Read, W: Write, E:
     let board = board_with(rt, request, &file)?;
     match request.symbols {
         Some(path) => {
-            let names = read_program(rt, path)?;
-            let code = code_of(rt.alloc(), path, &names, Addresses::Virtual)?;
-            cover_loaded(rt, board, request, &code, input, output, errors)
+            let named = read_program(rt, path)?;
+            let code = code_of(rt.alloc(), path, &named, Addresses::Virtual)?;
+            let names = Names {
+                file: &named,
+                addresses: Addresses::Virtual,
+            };
+            cover_loaded(rt, board, request, &code, names, input, output, errors)
         }
         None if request.is_raw => Err(Refusal::File(request.path(), FileFault::HasNoSymbols)),
         None => {
             let code = code_of(rt.alloc(), request.path(), &file, Addresses::Physical)?;
-            cover_loaded(rt, board, request, &code, input, output, errors)
+            let names = own_names(request, &file);
+            cover_loaded(rt, board, request, &code, names, input, output, errors)
         }
     }
 }
@@ -177,6 +182,7 @@ fn cover_loaded<'a, H: Files + Eprint + AllocGlobal, R: Read, W: Write, E: Write
     mut board: Board,
     request: Request<'a>,
     code: &Code<'_>,
+    names: Names<'_>,
     input: &mut R,
     output: &mut W,
     errors: &mut E,
@@ -196,7 +202,7 @@ fn cover_loaded<'a, H: Files + Eprint + AllocGlobal, R: Read, W: Write, E: Write
     let ended = match run {
         Ok((end, profile)) => {
             match write_reports(rt.alloc(), request, &profile, &mut outputs, errors) {
-                Ok(()) => Ok(ending_of(rt, "rrs cover", &board, end)),
+                Ok(()) => Ok(ending_of(rt, "rrs cover", &board, names, end)),
                 Err(refusal) => Err(refusal),
             }
         }

@@ -1,8 +1,10 @@
 //! Executables as the subcommands take them: read, run, and what is told where they fail.
 
-ghost use Rattle.std.specs.Prelude.{◌≡◌, None, IfOk, IfSome, max, min};
+ghost use Rattle.std.specs.Prelude.{◌≡◌, ◌↔◌, None, IsTrue, IfOk, IfSome, max, min};
 ghost use Rattle.rrs_elf.specs.Executables.{IsExecutable};
 ghost use Rattle.rrs_exec.specs.Images.{needed_of};
+ghost use Rattle.rrs_files.specs.Requests.{IsOfFiles};
+ghost use Rattle.rrs_run_commands.specs.Execution.{is_overrun};
 ghost use Rattle.rrs_run_commands.specs.Options.{usual_memory, most_unasked};
 
 use crate::files::{read_program, refused_by_host};
@@ -10,12 +12,12 @@ use crate::options::{MOST_UNASKED, Task, usual_memory};
 use crate::refusal::{Refusal, no_image, out_of_memory};
 use crate::requests::Request;
 use crate::variables::variables_of;
-use rrs_elf::Executable;
+use rrs_elf::{Addresses, Executable};
 use rrs_exec::{ImageError, ProcessEnd, Progress, execute_process, needed_memory};
 use rrs_fast::Ending;
 use rrs_files::{Descriptors, Files as ProgramFiles, HostFolder, execute_below};
 use rrs_lib::instruction_executor::InstructionException;
-use rrs_linux::Linux;
+use rrs_linux::{Heap, Linux};
 use rrs_reports::{SHOWN_BYTES, ShownName};
 use std::io::{Read, Write};
 use std::rt::Files;
@@ -37,8 +39,8 @@ pub fn memory_for(file: &[u8], asked: Option<u64>) -> u64
     }
 }
 
-/// Runs an executable as a process, and serves its system calls. A fault is told on standard error:
-/// where it was, and after how many steps.
+/// Runs an executable as a process, and serves its system calls. Of a fault and of the limit it is
+/// told on standard error where it was, and after how many steps.
 ///
 /// # Errors
 ///
@@ -60,7 +62,7 @@ pub fn execute_executable<
     let file = read_program(rt, request.path())?;
     match execute_bytes(rt, &file, request, environment, progress)? {
         Ok(end) => {
-            tell(rt, "rrs exec", &file, &end);
+            tell(rt, "rrs exec", &file, environment.heap, &end);
             Ok(end.ending)
         }
         Err(error) => Err(no_image(request.path(), &file, error)),
@@ -135,20 +137,58 @@ fn files_below<'h, 'a, H: Files + AllocGlobal>(
     }
 }
 
-/// Says of a fault where it was, in which function, and after how many steps, after the name of
-/// the program. Where that can't be printed nothing is told.
-pub fn tell<H: Eprint>(rt: &H, program: &str, file: &[u8], end: &ProcessEnd) {
-    let Ending::Fault(fault) = &end.ending else {
-        return;
-    };
+/// Whether a call of this number is one that only a program with files is served: `openat`, others
+/// that name a file, `fcntl64` and `close`.
+pub fn is_of_files(number: u32) -> bool
+    ensures { IsTrue result ↔ IsOfFiles number }
+{
+    matches!(
+        number,
+        17 | 25 | 34 | 35 | 48 | 56 | 57 | 78 | 79 | 276 | 291 | 412
+    )
+}
+
+/// Says of a run that did not end by itself where it was, in which function, and after how many
+/// steps, after the name of the program; and of a fault what may have led to it. Where that can't be
+/// printed nothing is told.
+pub fn tell<H: Eprint>(rt: &H, program: &str, file: &[u8], heap: Heap, end: &ProcessEnd) {
     let (pc, steps) = (end.pc, end.steps);
-    let _ = match place_of(file, pc) {
+    match &end.ending {
+        Ending::Exit(_) => {}
+        Ending::Limit => {
+            let place = place_of(file, Addresses::Virtual, pc);
+            tell_place(rt, program, place, pc, "", steps);
+        }
+        Ending::Fault(fault) => {
+            let place = place_of(file, Addresses::Virtual, pc);
+            tell_place(rt, program, place, pc, "", steps);
+            tell_fault(rt, program, heap, fault);
+        }
+    }
+}
+
+/// Says where a run was, in which mode, if that is told, and after how many steps.
+pub(crate) fn tell_place<H: Eprint>(
+    rt: &H,
+    program: &str,
+    place: Option<(&[u8], u32)>,
+    pc: u32,
+    mode: &str,
+    steps: u64,
+) {
+    let _ = match place {
         Some((name, distance)) => {
             let name = ShownName { name };
-            eprintln!(rt; "{program}: at pc 0x{pc:08x}, {name} + {distance}, after {steps} steps")
+            eprintln!(rt;
+                "{program}: at pc 0x{pc:08x}, {name} + {distance}{mode}, after {steps} steps"
+            )
         }
-        None => eprintln!(rt; "{program}: at pc 0x{pc:08x}, after {steps} steps"),
+        None => eprintln!(rt; "{program}: at pc 0x{pc:08x}{mode}, after {steps} steps"),
     };
+}
+
+/// Says what may have led to a fault: no code, compressed code, or a stack that ran over.
+fn tell_fault<H: Eprint>(rt: &H, program: &str, heap: Heap, fault: &InstructionException) {
     if let InstructionException::IllegalInstruction(_, word) = fault {
         let half = word % 65536;
         if half == 0 {
@@ -157,12 +197,32 @@ pub fn tell<H: Eprint>(rt: &H, program: &str, file: &[u8], end: &ProcessEnd) {
             let _ = eprintln!(rt; "{program}: 0x{half:04x} is compressed code");
         }
     }
+    if is_overrun(heap, fault) {
+        let _ = eprintln!(rt; "{program}: the stack ran over: it has 8 MiB at most");
+    }
 }
 
-/// The function in which an address lies, or else the nearest before it, and how far after its
-/// first instruction it is.
-fn place_of(file: &[u8], address: u32) -> Option<(&[u8], u32)> {
-    let Ok(executable) = Executable::parse(file) else {
+/// The bytes that are not mapped between the highest break and the stack: 64 KiB.
+const GAP_BYTES: u32 = 1 << 16;
+
+/// Whether a fault is that of a stack that ran over: of a load or a store in the bytes below the
+/// stack that are not mapped.
+fn is_overrun(heap: Heap, fault: &InstructionException) -> bool
+    ensures { result ≡ is_overrun heap fault.now }
+{
+    match fault {
+        InstructionException::LoadAccessFault(address)
+        | InstructionException::StoreAccessFault(address) => {
+            *address >= heap.end && *address - heap.end < GAP_BYTES
+        }
+        _ => false,
+    }
+}
+
+/// The function of an executable in which an address lies, or else the nearest before it, and how
+/// far after its first instruction it is. Its segments are at these of their addresses.
+pub(crate) fn place_of(file: &[u8], addresses: Addresses, address: u32) -> Option<(&[u8], u32)> {
+    let Ok(executable) = Executable::parse_at(file, addresses) else {
         return None;
     };
     let Ok(Some(symbols)) = executable.symbols() else {

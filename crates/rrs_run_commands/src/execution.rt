@@ -6,11 +6,12 @@ ghost use Rattle.rrs_exec.specs.Mending.{Mending};
 ghost use Rattle.rrs_linux.specs.SystemCalls.{Serves};
 ghost use Rattle.rrs_run_commands.specs.Execution.{ExecutesProgram};
 
+use crate::executables::tell;
 use crate::files::read_program;
 use crate::refusal::{Refusal, unloaded};
 use rrs_cli::fault::RunFault;
 use rrs_cli::loading::load;
-use rrs_exec::{DECODED_WORDS, InPieces, Progress, run_mended};
+use rrs_exec::{DECODED_WORDS, InPieces, ProcessEnd, Progress, run_mended};
 use rrs_fast::{CachedMemory, Ending, OwnCache, ServedEnd};
 use rrs_lib::HartState;
 use rrs_lib::instruction_executor::InstructionExecutor;
@@ -29,8 +30,8 @@ pub const HEAP_START: u32 = 0x0008_0000;
 pub const HEAP_END: u32 = 0x000c_0000;
 
 /// Runs a reader's bytes as a program, and serves its system calls, for `limit` steps or until it
-/// ends or raises an exception that is not mended. The progress is told of its steps, and of its
-/// end.
+/// ends or raises an exception that is not mended. The end has the steps that were made and the pc
+/// after them. The progress is told of its steps, and of its end.
 ///
 /// # Errors
 ///
@@ -43,10 +44,11 @@ pub fn execute<F: Read, R: Read, W: Write, E: Write, P: Progress>(
     strict: bool,
     environment: &mut Linux<R, W, E>,
     progress: &mut P,
-) -> Result<Ending, RunFault>
-    ensures executed { IfOk result (ExecutesProgram
+) -> Result<ProcessEnd, RunFault>
+    ensures executed { IfOk result (λ end. ExecutesProgram
         (Mending (Serves R.remaining W.contents E.contents) strict) limit
-        (F.remaining program.old) (F.remaining program.new) environment.old environment.new) }
+        (F.remaining program.old) (F.remaining program.new) environment.old environment.new
+        end.steps end.pc end.ending) }
     ensures fault { IfErr result
         (StopsLoadInto 262144 (F.remaining program.old) (F.remaining program.new)) }
     ensures kept { OnErr result (environment.new ≡ environment.old) }
@@ -64,17 +66,19 @@ pub fn execute<F: Read, R: Read, W: Write, E: Write, P: Progress>(
         progress: &mut *progress,
     };
     let end = run_mended(&mut runner, &mut executor, environment, strict, limit);
-    let ServedEnd { steps: _, ending } = end;
+    let ServedEnd { steps, ending } = end;
     progress.end();
-    Ok(ending)
+    let pc = executor.hart_state.pc;
+    Ok(ProcessEnd { ending, steps, pc })
 }
 
-/// Runs the bytes of a file as `execute` does.
+/// Runs the bytes of a file as `execute` does. Of a fault and of the limit it is told on standard
+/// error where it was, and after how many steps.
 ///
 /// # Errors
 ///
 /// Those of `read_program`, `Refusal::File` where it is too long, and out of memory as a failure.
-pub fn execute_file<'a, H: Files + AllocGlobal, R: Read, W: Write, E: Write, P: Progress>(
+pub fn execute_file<'a, H: Files + Eprint + AllocGlobal, R: Read, W: Write, E: Write, P: Progress>(
     rt: &H,
     path: &'a str,
     limit: u64,
@@ -91,7 +95,10 @@ pub fn execute_file<'a, H: Files + AllocGlobal, R: Read, W: Write, E: Write, P: 
         environment,
         progress,
     ) {
-        Ok(ending) => Ok(ending),
+        Ok(end) => {
+            tell(rt, "rrs exec", b"", environment.heap, &end);
+            Ok(end.ending)
+        }
         Err(fault) => Err(unloaded(path, fault)),
     }
 }

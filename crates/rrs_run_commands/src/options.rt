@@ -64,6 +64,12 @@ pub enum Setting {
     Memory,
     /// `--from`, with an address or a symbol.
     From,
+    /// `--to`, with an address or a symbol.
+    To,
+    /// `--only`, with a function.
+    Only,
+    /// `--steps`, with numbers of steps: `N-M`.
+    Steps,
     /// `--output`, with a path.
     Output,
     /// `--callgrind`, with a path.
@@ -95,7 +101,7 @@ pub enum Setting {
 }
 
 /// The words of all options.
-pub static WORDS: [&str; 25] = [
+pub static WORDS: [&str; 28] = [
     "--quiet",
     "--raw",
     "--strict-alignment",
@@ -107,6 +113,9 @@ pub static WORDS: [&str; 25] = [
     "--limit",
     "--memory",
     "--from",
+    "--to",
+    "--only",
+    "--steps",
     "--output",
     "--callgrind",
     "--input",
@@ -150,6 +159,9 @@ fn setting_named(name: &str) -> Option<Setting>
         "--limit" => Some(Setting::Limit),
         "--memory" => Some(Setting::Memory),
         "--from" => Some(Setting::From),
+        "--to" => Some(Setting::To),
+        "--only" => Some(Setting::Only),
+        "--steps" => Some(Setting::Steps),
         "--output" => Some(Setting::Output),
         "--callgrind" => Some(Setting::Callgrind),
         "--input" => Some(Setting::Input),
@@ -226,7 +238,9 @@ fn has_setting(task: Task, setting: Setting) -> bool
             task,
             Task::Execute | Task::Trace | Task::Cover | Task::Debug
         ),
-        Setting::From => matches!(task, Task::Trace | Task::TraceBoard),
+        Setting::From | Setting::To | Setting::Only | Setting::Steps => {
+            matches!(task, Task::Trace | Task::TraceBoard)
+        }
         Setting::Output => is_watched(task),
         Setting::Callgrind => matches!(task, Task::Cover | Task::CoverBoard),
         Setting::Input => matches!(task, Task::Debug) || is_on_board(task),

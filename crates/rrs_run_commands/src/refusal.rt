@@ -153,8 +153,10 @@ pub enum Refusal<'a> {
     SourceErrors,
     /// Something is wrong with the file of this path.
     File(&'a str, FileFault),
-    /// This word after `--from` is no address, and no symbol has this name.
-    NoAddress(&'a str),
+    /// This word after an option for an address is none, and no symbol has this name.
+    NoAddress(Setting, &'a str),
+    /// No function has this name, which stands after `--only`.
+    NoFunction(&'a str),
     /// The bytes of a program are not written to a terminal.
     Terminal,
     /// What is written can't be written. `named` says where to.

@@ -8,8 +8,11 @@ ghost use Rattle.rrs_run_commands.specs.Requests.{AsksFor, Gives, IsProgram, IsW
 use crate::options::{Setting, Switch, Task, most_memory, setting_of, switch_of, usual_limit};
 use crate::refusal::Mistake;
 use crate::variables::Variables;
-use crate::words::{address_of, is_dashed, is_variable, name_and_value, number_of, size_of};
+use crate::words::{
+    address_of, is_dashed, is_variable, name_and_value, number_of, size_of, steps_of,
+};
 use rrs_cli::limits::limit_of;
+use rrs_reports::StepRange;
 
 /// What is printed of a source that is assembled.
 #[derive(Clone, Copy, PartialEq)]
@@ -59,6 +62,12 @@ pub struct Request<'a> {
     pub data_start: Option<u32>,
     /// The word for the address from which on lines are written: `--from`.
     pub from: Option<&'a str>,
+    /// The word for the address up to which lines are written: `--to`.
+    pub to: Option<&'a str>,
+    /// The function whose steps alone have lines: `--only`.
+    pub only: Option<&'a str>,
+    /// The steps that alone have lines: `--steps`.
+    pub logged: Option<StepRange>,
     /// The path of the file that is written: `--output`, and `-o` of an executable.
     pub output: Option<&'a str>,
     /// The path of the file that a profile is written to: `--callgrind`.
@@ -111,6 +120,9 @@ fn unasked<'a>(task: Task) -> Request<'a>
         text_start: None,
         data_start: None,
         from: None,
+        to: None,
+        only: None,
+        logged: None,
         output: None,
         callgrind: None,
         input: None,
@@ -313,6 +325,12 @@ fn set<'a>(
         },
         Setting::Memory => request.memory = Some(memory_of(task, value)?),
         Setting::From => request.from = Some(value),
+        Setting::To => request.to = Some(value),
+        Setting::Only => request.only = Some(value),
+        Setting::Steps => match steps_of(value) {
+            Some(range) => request.logged = Some(range),
+            None => return Err(Mistake::Wrong(setting, value)),
+        },
         Setting::Output | Setting::Executable => request.output = Some(value),
         Setting::Callgrind => request.callgrind = Some(value),
         Setting::Input => match task {

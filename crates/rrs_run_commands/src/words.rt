@@ -1,8 +1,10 @@
 //! What a word of a command line is: a number, a size, an address, or an option.
 
-ghost use Rattle.std.specs.Prelude.{◌≡◌, ◌↔◌, ◌^◌, ◌<◌, ◌≤◌, ℕ, IsTrue, MatchOption, slice_index};
+ghost use Rattle.std.specs.Prelude.{◌≡◌, ◌↔◌, ◌⊎◌, ◌+◌, ◌^◌, ◌<◌, ◌≤◌, ℕ, IsTrue, MatchOption, slice_index};
 ghost use Rattle.std.specs.Str.Parse.{IsNumeral, digits_value};
-ghost use Rattle.rrs_run_commands.specs.Words.{HasValue, IsAddress, IsDashed, IsInUnit, IsNumber, IsSize, IsVariable, name_in, value_in};
+ghost use Rattle.rrs_run_commands.specs.Words.{HasValue, IsAddress, IsDashed, IsInUnit, IsNumber, IsSize, IsStepRange, IsVariable, name_in, value_in};
+
+use rrs_reports::StepRange;
 
 /// The number that a word is: decimal digits, or `0x` and hexadecimal ones. `None` where the word
 /// has no digits or others, and where it is 2^64 or more.
@@ -81,6 +83,38 @@ pub fn address_of(word: &str) -> Option<u32>
         Some(address) if address % 4 == 0 => Some(address as u32),
         _ => None,
     }
+}
+
+/// The steps that a word is, N-M: from the one of the number N on, which is 1 at least, to that of
+/// the number M, which is no less.
+pub fn steps_of(word: &str) -> Option<StepRange>
+    ensures { MatchOption result ((range : StepRange) → IsStepRange word.now range → ⊥)
+        (IsStepRange word.now) }
+{
+    let Some((first, last)) = word.split_once('-') else {
+        return None;
+    };
+    let Some(first) = number_of(first) else {
+        return None;
+    };
+    let Some(last) = number_of(last) else {
+        return None;
+    };
+    range_of(first, last)
+}
+
+/// The steps from the one of a number on to that of another, if there are some.
+fn range_of(first: u64, last: u64) -> Option<StepRange>
+    ensures { MatchOption result ((first ≡ 0) ⊎ (last < first))
+        (λ range. (range.before + 1 ≡ first) × (range.until ≡ last) × (first ≤ last)) }
+{
+    if first == 0 || last < first {
+        return None;
+    }
+    Some(StepRange {
+        before: first - 1,
+        until: last,
+    })
 }
 
 /// Whether the first byte of a word is a plus, which std takes before the digits of a number.

@@ -136,12 +136,47 @@ const MENDED: &[u8] = b"\x7f\x45\x4c\x46\x01\x01\x01\x00\x00\x00\x00\x00\x00\x00
     \x13\x05\x70\x00\x37\x06\x01\x00\x83\x25\x16\x00\xa3\x11\xa6\x00\
     \xaf\x26\xa6\x00\x93\x08\xd0\x05\x73\x00\x00\x00";
 
+/// Such an executable that asks for a file: addi x17, x0, 56 / ecall / addi x17, x0, 93 / ecall.
+const ASKS: &[u8] = b"\x7f\x45\x4c\x46\x01\x01\x01\x00\x00\x00\x00\x00\x00\x00\x00\x00\
+    \x02\x00\xf3\x00\x01\x00\x00\x00\x54\x00\x01\x00\x34\x00\x00\x00\
+    \x00\x00\x00\x00\x00\x00\x00\x00\x34\x00\x20\x00\x01\x00\x28\x00\x00\x00\x00\x00\
+    \x01\x00\x00\x00\x00\x00\x00\x00\x00\x00\x01\x00\x00\x00\x01\x00\
+    \x64\x00\x00\x00\x64\x00\x00\x00\x07\x00\x00\x00\x00\x10\x00\x00\
+    \x93\x08\x80\x03\x73\x00\x00\x00\x93\x08\xd0\x05\x73\x00\x00\x00";
+
+/// Such an executable that stores below its stack, which has 8 MiB at the end of 256 MiB from
+/// 0x10000 on: lui x12, 0xf810 / sw x10, -4(x12).
+const RUNS_OVER: &[u8] = b"\x7f\x45\x4c\x46\x01\x01\x01\x00\x00\x00\x00\x00\x00\x00\x00\x00\
+    \x02\x00\xf3\x00\x01\x00\x00\x00\x54\x00\x01\x00\x34\x00\x00\x00\
+    \x00\x00\x00\x00\x00\x00\x00\x00\x34\x00\x20\x00\x01\x00\x28\x00\x00\x00\x00\x00\
+    \x01\x00\x00\x00\x00\x00\x00\x00\x00\x00\x01\x00\x00\x00\x01\x00\
+    \x5c\x00\x00\x00\x5c\x00\x00\x00\x07\x00\x00\x00\x00\x10\x00\x00\
+    \x37\x06\x81\x0f\x23\x2e\xa6\xfe";
+
+/// One that loads from the lowest address of the 64 KiB there: lui x12, 0xf800 / lw x10, 0(x12).
+const FAR_OVER: &[u8] = b"\x7f\x45\x4c\x46\x01\x01\x01\x00\x00\x00\x00\x00\x00\x00\x00\x00\
+    \x02\x00\xf3\x00\x01\x00\x00\x00\x54\x00\x01\x00\x34\x00\x00\x00\
+    \x00\x00\x00\x00\x00\x00\x00\x00\x34\x00\x20\x00\x01\x00\x28\x00\x00\x00\x00\x00\
+    \x01\x00\x00\x00\x00\x00\x00\x00\x00\x00\x01\x00\x00\x00\x01\x00\
+    \x5c\x00\x00\x00\x5c\x00\x00\x00\x07\x00\x00\x00\x00\x10\x00\x00\
+    \x37\x06\x80\x0f\x03\x25\x06\x00";
+
+/// One that loads below these and stores above them, and then stores at 0: lui x12, 0xf800
+/// / lw x10, -4(x12) / lui x12, 0xf810 / sw x10, 0(x12) / sw x10, 0(x0).
+const BESIDE: &[u8] = b"\x7f\x45\x4c\x46\x01\x01\x01\x00\x00\x00\x00\x00\x00\x00\x00\x00\
+    \x02\x00\xf3\x00\x01\x00\x00\x00\x54\x00\x01\x00\x34\x00\x00\x00\
+    \x00\x00\x00\x00\x00\x00\x00\x00\x34\x00\x20\x00\x01\x00\x28\x00\x00\x00\x00\x00\
+    \x01\x00\x00\x00\x00\x00\x00\x00\x00\x00\x01\x00\x00\x00\x01\x00\
+    \x68\x00\x00\x00\x68\x00\x00\x00\x07\x00\x00\x00\x00\x10\x00\x00\
+    \x37\x06\x80\x0f\x03\x25\xc6\xff\x37\x06\x81\x0f\x23\x20\xa6\x00\
+    \x23\x20\xa0\x00";
+
 /// A source.
 const SOURCE: &[u8] = b"    addi x1, x0, 7\n    .data\n    .byte 5, 6, 7, 8, 9\n";
 
 /// Files of a program, of jal x0, 0, which jumps to itself, of executables, and of sources. None can
 /// be written.
-const FILES: [Contents<'static>; 7] = [
+const FILES: [Contents<'static>; 11] = [
     Contents {
         name: "program",
         bytes: THREE_WORDS,
@@ -160,6 +195,26 @@ const FILES: [Contents<'static>; 7] = [
     Contents {
         name: "mended",
         bytes: MENDED,
+        fails: false,
+    },
+    Contents {
+        name: "asks",
+        bytes: ASKS,
+        fails: false,
+    },
+    Contents {
+        name: "runs over",
+        bytes: RUNS_OVER,
+        fails: false,
+    },
+    Contents {
+        name: "far over",
+        bytes: FAR_OVER,
+        fails: false,
+    },
+    Contents {
+        name: "beside",
+        bytes: BESIDE,
         fails: false,
     },
     Contents {
@@ -209,10 +264,11 @@ const QUIET_USAGE: &str = "usage: rrs run [--quiet] FILE LIMIT\n";
 
 /// How `rrs trace` is called.
 const TRACE_USAGE: &str = "usage: rrs trace [--limit STEPS] [--memory BYTES] [--clock fixed] \
-    [--env NAME=VALUE] ..\n    [--from ADDRESS|SYMBOL] [--output FILE] PROGRAM [ARGUMENT] ..\n       \
+    [--env NAME=VALUE] ..\n    [--from ADDRESS|SYMBOL] [--to ADDRESS|SYMBOL] [--only FUNCTION] \
+    [--steps N-M]\n    [--output FILE] PROGRAM [ARGUMENT] ..\n       \
     rrs trace --board [--limit STEPS] [--memory BYTES] [--input polled] [--raw]\n           \
     [--dtb FILE] [--append TEXT] [--symbols FILE] [--from ADDRESS|SYMBOL]\n           \
-    [--output FILE] PROGRAM\n";
+    [--to ADDRESS|SYMBOL] [--only FUNCTION] [--steps N-M] [--output FILE] PROGRAM\n";
 
 /// How `rrs cover` is called.
 const COVER_USAGE: &str = "usage: rrs cover [--limit STEPS] [--memory BYTES] [--clock fixed] \
@@ -334,12 +390,44 @@ fn refuses_other_words(rt: HostRuntime) {
 }
 
 /// The same, of what runs executables.
-static REFUSED_PROGRAMS: [Refused; 33] = [
+static REFUSED_PROGRAMS: [Refused; 43] = [
     (
         Program::Rrs,
         &[b"rrs", b"exec", b"--limit", b"10", b"--raw", b"program"],
         132,
-        "rrs exec: IllegalInstruction pc=0x0000000c word=0x00000000\n",
+        "rrs exec: at pc 0x0000000c, after 3 steps\n\
+        rrs exec: no code is there; a program ends by a call of exit\n\
+        rrs exec: IllegalInstruction pc=0x0000000c word=0x00000000\n",
+    ),
+    (
+        Program::Rrs,
+        &[b"rrs", b"exec", b"asks"],
+        218,
+        "rrs exec: the system call openat (56) is not served: \
+        rrs exec --files FOLDER serves it to an executable\n",
+    ),
+    (
+        Program::Rrs,
+        &[b"rrs", b"exec", b"runs over"],
+        139,
+        "rrs exec: at pc 0x00010058, after 1 steps\n\
+        rrs exec: the stack ran over: it has 8 MiB at most\n\
+        rrs exec: StoreAccessFault addr=0x0f80fffc\n",
+    ),
+    (
+        Program::Rrs,
+        &[b"rrs", b"exec", b"far over"],
+        139,
+        "rrs exec: at pc 0x00010058, after 1 steps\n\
+        rrs exec: the stack ran over: it has 8 MiB at most\n\
+        rrs exec: LoadAccessFault addr=0x0f800000\n",
+    ),
+    (
+        Program::Rrs,
+        &[b"rrs", b"exec", b"beside"],
+        139,
+        "rrs exec: at pc 0x00010064, after 4 steps\n\
+        rrs exec: StoreAccessFault addr=0x00000000\n",
     ),
     (
         Program::Rrs,
@@ -515,6 +603,42 @@ static REFUSED_PROGRAMS: [Refused; 33] = [
         &[b"rrs", b"trace", b"--from", b"main", b"process"],
         125,
         "rrs trace: --from: main is no address, and no symbol of PROGRAM\n",
+    ),
+    (
+        Program::Rrs,
+        &[b"rrs", b"trace", b"--steps", b"4-3", b"process"],
+        125,
+        "rrs trace: --steps: 4-3 is no range of steps: N-M, two numbers from 1 on, of which M is no less\n",
+    ),
+    (
+        Program::Rrs,
+        &[b"rrs", b"trace", b"--steps", b"0-3", b"process"],
+        125,
+        "rrs trace: --steps: 0-3 is no range of steps: N-M, two numbers from 1 on, of which M is no less\n",
+    ),
+    (
+        Program::Rrs,
+        &[b"rrs", b"trace", b"--steps", b"3", b"process"],
+        125,
+        "rrs trace: --steps: 3 is no range of steps: N-M, two numbers from 1 on, of which M is no less\n",
+    ),
+    (
+        Program::Rrs,
+        &[b"rrs", b"trace", b"--steps", b"3-", b"process"],
+        125,
+        "rrs trace: --steps: 3- is no range of steps: N-M, two numbers from 1 on, of which M is no less\n",
+    ),
+    (
+        Program::Rrs,
+        &[b"rrs", b"trace", b"--to", b"main", b"process"],
+        125,
+        "rrs trace: --to: main is no address, and no symbol of PROGRAM\n",
+    ),
+    (
+        Program::Rrs,
+        &[b"rrs", b"trace", b"--only", b"main", b"process"],
+        125,
+        "rrs trace: --only: main is no function of PROGRAM\n",
     ),
     (
         Program::Rrs,
@@ -888,7 +1012,7 @@ type Reported = (
     &'static str,
 );
 
-static REPORTED: [Reported; 11] = [
+static REPORTED: [Reported; 18] = [
     (&[b"rrs", b"gdb", b"--raw", b"process"], 0, "", "", ""),
     (
         &[b"rrs", b"gdb", b"process", b"--raw", b"-x"],
@@ -945,9 +1069,78 @@ static REPORTED: [Reported; 11] = [
             b"rrs", b"trace", b"--from", b"65636", b"--limit", b"5", b"process",
         ],
         124,
-        "rrs trace: limit\n",
+        "rrs trace: at pc 0x00010068, after 5 steps\nrrs trace: limit\n",
         "core   0: 3 0x00010064 (0x05d00893) x17 0x0000005d\n",
         "core   0: 3 0x00010064 (0x05d00893) x17 0x0000005d\n",
+    ),
+    (
+        &[b"rrs", b"trace", b"--to", b"0x10060", b"process"],
+        7,
+        "",
+        FIRST_LINES,
+        "",
+    ),
+    (
+        &[
+            b"rrs",
+            b"trace",
+            b"--from=0x10064",
+            b"--to=0x10064",
+            b"process",
+        ],
+        7,
+        "",
+        "core   0: 3 0x00010064 (0x05d00893) x17 0x0000005d\n",
+        "",
+    ),
+    // the step at the end of the lines is none of those after their beginning
+    (
+        &[
+            b"rrs",
+            b"trace",
+            b"--from=0x10064",
+            b"--to=0x10054",
+            b"process",
+        ],
+        7,
+        "",
+        LAST_LINES,
+        "",
+    ),
+    (
+        &[b"rrs", b"trace", b"--steps", b"5-6", b"process"],
+        7,
+        "",
+        LAST_LINES,
+        "",
+    ),
+    (
+        &[b"rrs", b"trace", b"--steps=1-0x4", b"process"],
+        7,
+        "",
+        FIRST_LINES,
+        "",
+    ),
+    (
+        &[
+            b"rrs",
+            b"trace",
+            b"--steps=1-5",
+            b"--from=0x10064",
+            b"process",
+        ],
+        7,
+        "",
+        "core   0: 3 0x00010064 (0x05d00893) x17 0x0000005d\n",
+        "",
+    ),
+    // a step that is carried out after its fault is one step
+    (
+        &[b"rrs", b"trace", b"--steps=4-7", b"mended"],
+        7,
+        "",
+        MENDED_ENDS,
+        "",
     ),
     (
         &[b"rrs", b"trace", b"mended"],
@@ -980,7 +1173,7 @@ static REPORTED: [Reported; 11] = [
             b"process",
         ],
         124,
-        "rrs cover: limit\n",
+        "rrs cover: at pc 0x00010058, after 1 steps\nrrs cover: limit\n",
         "\nprocess:     file format elf32-littleriscv\n",
         "           0     10068:\t00000073          \tecall\n",
     ),

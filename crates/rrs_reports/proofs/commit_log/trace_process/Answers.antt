@@ -10,25 +10,25 @@ use Rattle.rrs_reports.proofs.commit_log.trace_process.Goals as goal
 pub returns-else-is_broken : goal.returns-else-is_broken
 returns-else-is_broken g c =
     let contents = g.O.Write.contents in
-    let from = c.args.from in
+    let window = c.args.window in
     let before = contents c.args.out.now in
     let new = c.watch_process-run.new.watcher in
     let start : CommitLog g.row.O.Denot = record {
       out = record { ref_ptr = c.args.out.ref_ptr; ghost_name = c.log-1.given; now = c.args.out.now };
-      from = from;
+      window = window;
       is_broken = false;
     } in
     let whole : new.is_broken ≡ false = c.if-is_broken.false in
-    let k = run_kept _ _ _ _ wants_lines (λ rs v. Held contents from before start (map entry_of rs) v)
-    (λ rs r v w held logs. held_of contents from before start entry_of rs r v w held logs)
+    let k = run_kept _ _ _ _ wants_lines (λ rs v. Held contents window before start (map entry_of rs) v)
+    (λ rs r v w held logs. held_of contents window before start entry_of rs r v w held logs)
     _ _ _ _ _ _ _ _ _ _ _ _ c.in-Ok.ensures.watched (ap (λ (b : Bool). if b then false else true) whole)
-    (record { same_out = refl; whole = logged_none contents from _ refl }) in
+    (record { same_out = refl; whole = logged_none contents window _ refl }) in
     let name = k.2.same_out in
     let same : c.out-1.given.0 ≡ new.out.now = search rules in
     record {
       traced = record {
         records = k.0;
         runs = k.1;
-        written = subst (λ w. Appends before (contents w) (log_text from (map entry_of k.0))) (sym same) (k.2.whole whole).written;
+        written = subst (λ w. Appends before (contents w) (log_text window (map entry_of k.0))) (sym same) (k.2.whole whole).written;
       };
     }

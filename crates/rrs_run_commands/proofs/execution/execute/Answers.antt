@@ -1,4 +1,4 @@
-use Rattle.std.proofs.Common.{◌^◌, ◌∷◌, set, drop, replicate, ap, subst}
+use Rattle.std.proofs.Common.{◌^◌, ◌∷◌, set, drop, replicate, refl, ap, subst}
 use Rattle.rrs_lib.specs.VecBytes.{bytes_of_words, lies_in_words, vec_bytes, vec_writable}
 use Rattle.rrs_lib.specs.Executor.{state_in}
 use Rattle.rrs_lib.specs.Machine.{State, state_of}
@@ -23,7 +23,7 @@ returns-clause-executed g c =
       bytes = bytes_of_words words;
       loaded = c.in_ok-memory.ensures.loaded;
       end = last;
-      steps = end.steps;
+      stands = refl;
       accesses = served.accesses;
       served = subst P start these;
     }
