@@ -8,6 +8,9 @@ from .text import Code
 
 ROOT = Path(__file__).resolve().parent.parent.parent
 CRATES = ROOT / "crates"
+# What is written by hand beside the proved text, since an impl stands in the crate of its type:
+# CRATE.rs is for the root of a crate, CRATE/MODULE.rs for a module whose private fields it names.
+IMPLS = ROOT / "rust/impls"
 
 # The crates that do not go over, each with the reason.
 NOT_OVER = {
@@ -19,8 +22,6 @@ NOT_OVER = {
 MODULES_NOT_OVER = {("tests_assembler", "lent"), ("tests_assembler", "room")}
 # The modules that need the feature `std`, in crates that otherwise do not.
 NEED_STD = {("rrs_memory", "load"), ("rrs_board", "images"), ("rrs_board", "terminal")}
-# The crates whose examples in the docs use a crate above them.
-EXAMPLES_ABOVE = {"rrs_instruction": "rrs_lib"}
 # Crates of others, for which those of stand-in/ stand. A registry has those with a version. The
 # others take an allocator in Rattle, and the crates of their names in a registry do not.
 OUTSIDE = {"arrayvec": "0.7", "itoa": "1", "hex": None, "circular_buffer": None}
@@ -41,6 +42,13 @@ def all_crates():
         for crate in used:
             if crate not in crates and crate not in OUTSIDE:
                 raise SystemExit(f"{name} uses {crate}, for which nothing stands: see {__file__}")
+    added = {added_to(path) for name in crates for path in source_files(name)}
+    for path in IMPLS.rglob("*.rs"):
+        if path not in added:
+            raise SystemExit(f"{path} is added to no source")
+    for source, header, _ in docs.EXAMPLES:
+        if not (CRATES / source).exists():
+            raise SystemExit(f"there is no crates/{source} for the example of `{header}`")
     return crates
 
 
@@ -64,6 +72,25 @@ def source_files(name):
 def texts_of(name):
     """The texts of a crate's sources."""
     return [(CRATES / path).read_text() for path in source_files(name)]
+
+
+def added_to(path):
+    """The file of what is added by hand to a source, as a module of it. It may not be there."""
+    inside = path.with_suffix(".rs").relative_to(Path(path.parts[0], "src"))
+    return IMPLS / (f"{path.parts[0]}.rs" if is_root(path) else Path(path.parts[0], inside))
+
+
+def module_added(path):
+    """Where that module stands, by its path from `crates/` on."""
+    return (path.parent if is_root(path) else path.with_suffix("")) / "impls.rs"
+
+
+def declaration(path):
+    """How a source declares that module, and passes on what it has by name; nothing without one."""
+    if not added_to(path).exists():
+        return ""
+    has_names = re.search(r"^pub ", added_to(path).read_text(), re.M)
+    return "\nmod impls;\n" + ("pub use impls::*;\n" if has_names else "")
 
 
 def is_root(path):
@@ -127,13 +154,14 @@ def erased_code(name, path, text):
     return re.sub(r"\{\n\n", "{\n", text)
 
 
-def erased(name, path, crates):
-    """The text of Rust of a source."""
-    text = sites.put(str(path), (CRATES / path).read_text())
+def erased(name, path, crates, registry=False):
+    """The text of Rust of a source, over the stand-ins or the crates of a registry."""
+    named = [crate for crate in [name, *crates[name]] if crate not in OUTSIDE]
+    text = sites.put(str(path), (CRATES / path).read_text(), registry)
+    text = docs.examples_are_put(str(path), text, named)
     text = docs.clause_names_are_no_links(without_modules(name, text))
     text = erased_code(name, path, text)
-    above = [EXAMPLES_ABOVE[name]] if name in EXAMPLES_ABOVE else []
-    named = [crate for crate in [name, *crates[name], *above] if crate not in OUTSIDE]
     imports = [module for crate in named for module in public_modules(crate)]
     text = docs.examples_are_doctests(text, imports)
-    return docs.claim_is_first(text, name) if is_root(path) else text
+    text = docs.claim_is_first(text, name) if is_root(path) else text
+    return text + declaration(path)

@@ -2,13 +2,37 @@
 
 import re
 import textwrap
+from pathlib import Path
+
+# The examples that are written by hand, each with its source and the header of its item.
+EXAMPLES = re.findall(
+    r"^## (\S+): `([^`]+)`\n\n```rust\n(.*?)^```$",
+    (Path(__file__).resolve().parent.parent / "examples.md").read_text(),
+    re.M | re.S,
+)
+# How rrs-kit passes a crate on.
+IN_KIT = {
+    "rrs_memory": "pub use rrs_memory::*;",
+    "rrs_instruction": "pub use rrs_instruction::*;",
+    "rrs_lib": "pub use rrs_lib::*;",
+    "rrs_fast": "pub use rrs_fast as fast;",
+    "rrs_encode": "pub use rrs_encode as encode;",
+    "rrs_extra": "pub use rrs_extra as extra;",
+    "rrs_trace": "pub use rrs_trace as trace;",
+    "rrs_elf": "pub use rrs_elf as elf;",
+    "rrs_history": "pub mod gdb { pub use rrs_history as history; }",
+    "rrs_machine": "pub mod machine { pub use rrs_machine::*; }",
+    "rrs_board": "pub mod machine { pub use rrs_board as board; }",
+    "rrs_asm": "pub mod asm { pub use rrs_asm::*; }",
+    "rrs_asm_output": "pub mod asm { pub use {rrs_asm::*, rrs_asm_output as assembly}; }",
+}
 
 CLAIM = """\
 The code of this crate is the proved text of `{name}`, with its contracts taken away and a published
-list of substitutions (`rust/residue.txt` in its repository). rustc, LLVM, Rust's library and the
-crate `rrs-kit-std` are trusted. A Rust caller proves nothing: what a contract `requires`, register
-numbers below 32 and the laws of `Memory` among it, is for the caller to keep. Where it is not kept
-an index panics or a result is wrong, and nothing is undefined."""
+list of substitutions, and of impls by hand (`rust/residue.txt` in its repository). rustc, LLVM,
+Rust's library and the crate `rrs-kit-std` are trusted. A Rust caller proves nothing: what a contract
+`requires`, register numbers below 32 and the laws of `Memory` among it, is for the caller to keep.
+Where it is not kept an index panics or a result is wrong, and nothing is undefined."""
 CONTRACTS = """\
 The clauses under "Contract" are what is proved of the text. `requires` is what a caller keeps,
 `ensures` what then holds after the call: `result` is what is returned, `x.old` and `x.new` are what
@@ -68,6 +92,26 @@ def clause_lines(token):
 
 
 # ------------------------------------------------------------------ the code in docs
+
+
+def examples_are_put(path, text, named):
+    """Puts the examples by hand into the docs of their items. They name rrs-kit, which is above the
+    crate: what it passes on of the crates that are named stands in lines that are not shown."""
+    kit = {IN_KIT[name].split("{")[0]: IN_KIT[name] for name in named[::-1] if name in IN_KIT}
+    kit = " ".join(["pub use rattle_std::alloc;", *kit.values()])
+    for source, header, example in EXAMPLES:
+        if source != path:
+            continue
+        if text.count(header) != 1:
+            raise SystemExit(f"crates/{path}: `{header}` does not stand there once")
+        at = text.rindex("\n", 0, text.index(header)) + 1
+        indent = re.match(" *", text[at:]).group()
+        while text[:at].splitlines()[-1].lstrip().startswith("#["):
+            at = text.rindex("\n", 0, at - 1) + 1
+        lines = ["", "# Examples", "", "```rust", f"# mod rrs_kit {{ {kit} }}"]
+        lines += [*example.splitlines(), "```"]
+        text = text[:at] + documented(lines, indent) + text[at:]
+    return text
 
 
 def examples_are_doctests(text, imports):

@@ -85,9 +85,6 @@ def dependency_lines(name, used, registry, has_host):
     lines += [dependency(crate, registry, bare) for crate in used]
     lines += ["", "[dev-dependencies]"]
     lines.append('rattle_std = { package = "rrs-kit-std", path = "../../rattle_std" }')
-    if name in crates.EXAMPLES_ABOVE:
-        above = crates.EXAMPLES_ABOVE[name]
-        lines.append(f'{above} = {{ package = "{package_of(above)}", path = "../{above}" }}')
     return lines
 
 
@@ -122,8 +119,12 @@ def write_package(output, name, known, registry):
     target, written = Path(output) / "crates" / name, set()
     for path in crates.source_files(name):
         to = (target.parent / path).with_suffix(".rs")
-        write(to, crates.erased(name, path, known))
+        write(to, crates.erased(name, path, known, registry))
         written.add(to)
+        if crates.added_to(path).exists():
+            module = target.parent / crates.module_added(path)
+            write(module, crates.added_to(path).read_text())
+            written.add(module)
     for stale in set((target / "src").rglob("*.rs")) - written:
         stale.unlink()
     write(target / "Cargo.toml", manifest(name, known[name], registry))

@@ -132,18 +132,166 @@ DEBUG = (
     ("rrs_elf/src/accepting.rt", "#[derive(Clone, Copy)]", "pub struct Executable"),
 )
 
+# Docs that speak of what the prover alone reads, or of a crate above, which a package can't name.
+DOCS = (
+    (
+        "rrs_instruction/src/decode.rt",
+        "/// let mut outputter = InstructionStringOutputter { insn_pc: 0x100, alloc };\n"
+        '/// let text = process_instruction(&mut outputter, 0x0020_8463).ok_or("no row")??;\n'
+        '/// assert_eq!(rt; text.as_str(), "beq x1, x2, 0x00000108");\n'
+        "/// assert!(rt; process_instruction(&mut outputter, 0xffff_ffff).is_none());\n",
+        "/// struct Names;\n"
+        "/// impl InstructionHandler for Names {\n"
+        "///     type Answer = &'static str;\n"
+        "///     fn handle(&mut self, instruction: &Instruction) -> &'static str {\n"
+        "///         instruction.mnemonic()\n"
+        "///     }\n"
+        "/// }\n"
+        '/// assert_eq!(process_instruction(&mut Names, 0x0020_8463), Some("beq"));\n'
+        "/// assert_eq!(process_instruction(&mut Names, 0xffff_ffff), None);\n",
+    ),
+    (
+        "rrs_memory/src/lib.rt",
+        " What a call does to all of its value it says\n"
+        "/// by two relations, `reads` and `writes`. One that has nothing to say beside the laws"
+        " answers\n"
+        "/// `Unit {0}` to both.\n",
+        " A read may change it too.\n",
+    ),
+    (
+        "rrs_memory/src/lib.rt",
+        "does nothing, by the relation `reads`, now and after any\n",
+        "changes nothing, now and after any\n",
+    ),
+    (
+        "rrs_memory/src/memories/slice.rt",
+        " Its relations `reads` and `writes` say that the\n"
+        "/// same words stay lent, so that their owner knows afterwards what they are.\n",
+        " The same words stay lent.\n",
+    ),
+    (
+        "rrs_instruction/src/lib.rt",
+        " An implementation says what it does by its relation `did`, and each function meets it.\n",
+        "\n",
+    ),
+    (
+        "rrs_instruction/src/lib.rt",
+        " with the same relation, whose functions\n",
+        ", whose functions\n",
+    ),
+    (
+        "rrs_fast/src/lib.rt",
+        "left out: by the memory's own relation it was made (`accesses`).",
+        "left out: by the memory's own word it changes nothing (`accesses`).",
+    ),
+    (
+        "rrs_fast/src/cached.rt",
+        "not fetched: by the memory's own relation the fetch was\n/// made (`accesses`).",
+        "not fetched: by the memory's own word the fetch\n/// changes nothing (`accesses`).",
+    ),
+    (
+        "rrs_lib/src/lib.rt",
+        "The number of registers, 32. A proof that must know the length of the array calls this.",
+        "The number of registers, 32.",
+    ),
+    (
+        "rrs_lib/src/instruction_executor/engine.rt",
+        "The number of registers. A proof that must know the length of the array calls this.",
+        "The number of registers.",
+    ),
+    (
+        "rrs_extra/src/laws.rt",
+        "//! No proof looks at how a call of `rrs_lib` is written: they use its contracts, its"
+        " definitions,\n//! and lemmas over these.\n",
+        "//! The contract of each function is its law.\n",
+    ),
+)
 
-def all_sites():
+
+# What is done with bytes where the stand-ins stand, which look at them where they become a `str`.
+# The crates of a registry have no such calls.
+APPENDED = (
+    (
+        "rrs_lib/src/disassembly/digits.rt",
+        "text.push_str(unsafe { str::from_utf8_unchecked(&digits[first..]) });",
+        "text.push_bytes(&digits[first..]);",
+    ),
+    (
+        "rrs_lib/src/disassembly.rt",
+        "b'0' + number as u8];\n        text.push_str(unsafe { str::from_utf8_unchecked(&name) });",
+        "b'0' + number as u8];\n        text.push_bytes(&name);",
+    ),
+    (
+        "rrs_lib/src/disassembly.rt",
+        "(number % 10) as u8];\n"
+        "        text.push_str(unsafe { str::from_utf8_unchecked(&name) });",
+        "(number % 10) as u8];\n        text.push_bytes(&name);",
+    ),
+    (
+        "rrs_lib/src/disassembly.rt",
+        "text.push_str(buffer.format(number));",
+        "text.push_bytes(buffer.digits(number));",
+    ),
+    (
+        "rrs_lib/src/disassembly.rt",
+        "text.push_str(hexadecimal_digits(least, word).as_str());",
+        "text.append(&hexadecimal_digits(least, word));",
+    ),
+    (
+        "rrs_cli/src/report.rt",
+        "line.push_str(hexadecimal_digits(8, pc).as_str());",
+        "line.append(&hexadecimal_digits(8, pc));",
+    ),
+    ("rrs_cli/src/report.rt", "line.push_str(text.as_str());", "line.append(text);"),
+    ("rrs_cli/src/simulation.rt", "line.as_str().as_bytes()", "line.as_bytes()"),
+    (
+        "rrs_reports/src/commit_log.rt",
+        "line.push_str(hexadecimal_digits(least, word).as_str());",
+        "line.append(&hexadecimal_digits(least, word));",
+    ),
+    (
+        "rrs_reports/src/commit_log.rt",
+        "line.push_str(buffer.format(register));",
+        "line.push_bytes(buffer.digits(register));",
+    ),
+    (
+        "rrs_reports/src/commit_log.rt",
+        "self.write(commit_line(word, retired).as_str());",
+        "self.write(commit_line(word, retired).as_bytes());",
+    ),
+    (
+        "rrs_reports/src/commit_log.rt",
+        "fn write(&mut self, lines: &str)",
+        "fn write(&mut self, lines: &[u8])",
+    ),
+    (
+        "rrs_reports/src/commit_log.rt",
+        "self.out.write_all(lines.as_bytes())",
+        "self.out.write_all(lines)",
+    ),
+    (
+        "rrs_reports/src/board_log.rt",
+        "self.write(step_lines(step).as_str());",
+        "self.write(step_lines(step).as_bytes());",
+    ),
+)
+
+
+def all_sites(registry=False):
     """Each substitution: the source, what stands there, what is put there, and why."""
+    for source, old, new in DOCS:
+        yield source, old, new, "A caller of Rust has no use for it."
     for source, derive, item in DEBUG:
         more = derive.replace("derive(", "derive(Debug, ")
         yield source, f"{derive}\n{item}", f"{more}\n{item}", "`unwrap` and `assert_eq` ask for it."
     yield from SITES
+    for source, old, new in () if registry else APPENDED:
+        yield source, old, new, "Each text would be looked at once more, whether it is UTF-8."
 
 
-def put(path, text):
+def put(path, text, registry):
     """The text of a source with what is put at its places."""
-    for source, old, new, _ in all_sites():
+    for source, old, new, _ in all_sites(registry):
         if source == path:
             if text.count(old) != 1:
                 raise SystemExit(f"crates/{path}: `{old}` stands {text.count(old)} times, not once")

@@ -1,44 +1,64 @@
 #![doc = include_str!("../README.md")]
 #![no_std]
+// docs.rs shows with each item the feature that it needs
+#![cfg_attr(docsrs, feature(doc_cfg))]
 
+mod bytes;
+#[cfg(feature = "linux")]
+mod processes;
+mod registers;
+
+pub use bytes::{BytesRefused, MemoryExt};
 pub use rrs_instruction::arithmetic;
 pub use rrs_lib::*;
 
-/// A run over a cache of decoded words.
+/// The formats of instructions, their opcodes, and the names of registers.
+pub mod instruction_formats {
+    pub use crate::registers::abi_name;
+    pub use rrs_lib::instruction_formats::*;
+}
+
+#[doc(inline)]
 pub use rrs_fast as fast;
 
-/// The word of an instruction.
+#[doc(inline)]
 pub use rrs_encode as encode;
 
-/// Numbers of rows, a memory of pages, and laws as functions.
+#[doc(inline)]
 pub use rrs_extra as extra;
 
 /// The allocator that is passed to what allocates, and the error where memory ran out.
 pub mod alloc {
+    #[doc(inline)]
     pub use rattle_std::alloc::{AllocError, Global};
 }
 
-/// The runtime of the host, which is passed to what reaches files, streams and clocks.
+/// The runtime of the host, which is passed to what reaches files, streams and clocks. Feature
+/// `std`.
 #[cfg(feature = "std")]
 pub mod rt {
+    #[doc(inline)]
     pub use rattle_std::rt::{AllocGlobal, Env, Eprint, Files, HostRuntime, Print};
 }
 
-/// Records of steps (RVFI), watchpoints and breakpoints.
+/// Feature `trace`.
 #[cfg(feature = "trace")]
+#[doc(inline)]
 pub use rrs_trace as trace;
 
-/// ELF executables.
+/// Feature `elf`.
 #[cfg(feature = "elf")]
+#[doc(inline)]
 pub use rrs_elf as elf;
 
-/// Machine mode: CSRs, traps and interrupts.
+/// Machine mode: CSRs, traps and interrupts. Feature `machine`.
 #[cfg(feature = "machine")]
 pub mod machine {
+    #[doc(inline)]
+    pub use rrs_board as board;
+    #[doc(inline)]
     pub use rrs_machine::*;
 
-    /// A board with a UART and a timer.
-    pub use rrs_board as board;
     /// The CSRs: their numbers, and what they keep.
     pub mod csrs {
         pub use rrs_machine::csrs::*;
@@ -46,11 +66,14 @@ pub mod machine {
     }
     /// The instructions of machine mode.
     pub mod instructions {
+        #[doc(inline)]
         pub use rrs_words::{SystemInstruction, SystemRow, decode_system};
     }
     /// The words and texts of the instructions of machine mode, and records of its steps.
     pub mod system {
+        #[doc(inline)]
         pub use rrs_machine::{CsrAccess, MachineRetired, step_machine_retired};
+        #[doc(inline)]
         pub use rrs_words::{
             AtomicInstruction, AtomicRow, LayerInstruction, LayerText, atomic_named, atomic_text,
             decode_atomic, decode_layer, encode_atomic, encode_layer, encode_system, laws,
@@ -59,19 +82,29 @@ pub mod machine {
     }
 }
 
-/// The calls of Linux.
+/// The calls of Linux. Feature `linux`.
 #[cfg(feature = "linux")]
 pub mod linux {
+    #[doc(inline)]
     pub use rrs_linux::*;
 
     /// A process from its executable to its end.
-    pub use rrs_exec as exec;
+    ///
+    /// [`execute_process`](exec::execute_process) runs one by a record of options, and
+    /// [`watch_process`](exec::watch_process) shows each of its steps.
+    pub mod exec {
+        pub use crate::processes::{ProcessOptions, environment, execute_process, watch_process};
+        #[doc(inline)]
+        pub use rrs_exec::*;
+    }
     /// Environments, which serve the `ecall`s of a run.
     pub mod env {
+        #[doc(inline)]
         pub use rrs_fast::{Ending, Environment, ServedEnd, run_served};
     }
     /// The image of a process: its segments, its stack and its rights.
     pub mod process {
+        #[doc(inline)]
         pub use rrs_exec::{
             Image, ImageError, Layout, PAGE_BYTES, PageRange, ProgramHeaders, ProtectedMemory,
             Protection, image_of, initial_stack, layout_of, marks_of, stack_pointer,
@@ -79,24 +112,24 @@ pub mod linux {
     }
 }
 
-/// The remote protocol of gdb.
+/// The remote protocol of gdb. Feature `gdb`.
 #[cfg(feature = "gdb")]
 pub mod gdb {
+    #[doc(inline)]
     pub use rrs_gdb::*;
-
-    /// Steps and calls that can be taken back.
+    #[doc(inline)]
     pub use rrs_history as history;
 }
 
-/// An assembler in the words of GNU `as`.
+/// An assembler in the words of GNU `as`. Feature `asm`.
 #[cfg(feature = "asm")]
 pub mod asm {
+    #[doc(inline)]
     pub use rrs_asm::*;
-
-    /// Executables, and the listing.
-    pub use rrs_asm_output as assembly;
-    /// Lines, names and expressions.
+    #[doc(inline)]
     pub use rrs_asm_lines as lines;
-    /// Macros and repetitions.
+    #[doc(inline)]
     pub use rrs_asm_macros as macros;
+    #[doc(inline)]
+    pub use rrs_asm_output as assembly;
 }

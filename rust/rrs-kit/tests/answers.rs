@@ -2,7 +2,7 @@
 //!
 //! The questions are those of `rrs-replay` whose answers come from elsewhere, and those that the faces
 //! for C and Python are asked (`docs/C.md` has the forms), but for those of calls that are C's alone.
-//! They stand in the repository above this crate, or in that of the variable `RRS_REPOSITORY`.
+//! `rust/build` puts them beside this file.
 #![cfg(all(feature = "trace", feature = "elf", feature = "machine", feature = "gdb"))]
 
 use rrs_kit::disassembly::Disassembled;
@@ -23,9 +23,9 @@ use rrs_kit::trace::{
     step_retired,
 };
 use rrs_kit::{HartState, MemAccessSize};
+use std::fs;
 use std::ops::Range;
-use std::path::{Path, PathBuf};
-use std::{env, fs};
+use std::path::Path;
 
 /// Questions of calls that only the library for C has.
 const OF_C: [&str; 5] = ["name", "cause", "compare", "retire", "rvfi32"];
@@ -542,23 +542,12 @@ fn answer(text: &str) -> String {
     })
 }
 
-/// The repository: the folder of the variable, or the first above this crate that has the questions.
-fn repository() -> PathBuf {
-    if let Some(folder) = env::var_os("RRS_REPOSITORY") {
-        return folder.into();
-    }
-    let here = Path::new(env!("CARGO_MANIFEST_DIR"));
-    let found = here.ancestors().find(|folder| folder.join("bindings/answers").is_dir());
-    found.expect("the repository is not above this crate: set RRS_REPOSITORY").to_owned()
-}
-
 #[test]
 fn the_answers_are_those_that_are_stored() {
-    let root = repository();
-    let read = |name: &str| fs::read_to_string(root.join(name)).expect(name);
-    let [first, first_answers] = ["crates/rrs_replay/stdin", "crates/rrs_replay/stdout"].map(read);
-    let [second, second_answers] =
-        ["bindings/answers/questions", "bindings/answers/answers"].map(read);
+    let folder = Path::new(env!("CARGO_MANIFEST_DIR")).join("tests/answers");
+    let read = |name: &str| fs::read_to_string(folder.join(name)).expect(name);
+    let [first, first_answers] = ["questions.replay", "answers.replay"].map(read);
+    let [second, second_answers] = ["questions", "answers"].map(read);
     let questions = first.lines().take(FROM_ELSEWHERE).chain(second.lines());
     let answers = first_answers.lines().take(FROM_ELSEWHERE).chain(second_answers.lines());
     let mut asked = 0;

@@ -40,10 +40,37 @@ impl<const N: usize> ArrayString<N> {
         self.push_str(c.encode_utf8(&mut [0; 4]));
     }
 
+    /// Appends bytes of a text. Panics where there is no room. Whether they are UTF-8 is looked at
+    /// where the text is asked for.
+    #[inline(always)]
+    pub fn push_bytes(&mut self, bytes: &[u8]) {
+        self.bytes[self.length..][..bytes.len()].copy_from_slice(bytes);
+        self.length += bytes.len();
+    }
+
+    /// Appends another text. Panics where there is no room. What is behind the text is copied too,
+    /// where there is room: a copy of so many bytes is no call.
+    #[inline(always)]
+    pub fn append<const M: usize>(&mut self, other: &ArrayString<M>) {
+        match self.bytes[self.length..].first_chunk_mut() {
+            Some(place) => {
+                *place = other.bytes;
+                self.length += other.length;
+            }
+            None => self.push_bytes(other.as_bytes()),
+        }
+    }
+
+    /// The bytes of the text.
+    #[inline]
+    pub fn as_bytes(&self) -> &[u8] {
+        &self.bytes[..self.length]
+    }
+
     /// The text.
     #[inline]
     pub fn as_str(&self) -> &str {
-        str::from_utf8(&self.bytes[..self.length]).expect("whole texts are appended")
+        str::from_utf8(self.as_bytes()).expect("whole texts are appended")
     }
 }
 

@@ -41,6 +41,12 @@ impl Buffer {
     /// The decimal digits of a number, after a `-` where it is negative.
     #[inline]
     pub fn format<I: Integer>(&mut self, number: I) -> &str {
+        str::from_utf8(self.digits(number)).expect("digits are ASCII")
+    }
+
+    /// The same as bytes.
+    #[inline]
+    pub fn digits<I: Integer>(&mut self, number: I) -> &[u8] {
         let (is_negative, mut rest) = number.sign_and_magnitude();
         let mut at = self.bytes.len();
         loop {
@@ -55,7 +61,7 @@ impl Buffer {
             at -= 1;
             self.bytes[at] = b'-';
         }
-        str::from_utf8(&self.bytes[at..]).expect("digits are ASCII")
+        &self.bytes[at..]
     }
 }
 

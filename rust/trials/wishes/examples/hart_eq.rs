@@ -1,0 +1,9 @@
+//! A hart is compared.
+
+use rrs_kit::HartState;
+
+fn has<T: PartialEq>() {}
+
+fn main() {
+    has::<HartState>();
+}
