@@ -1,9 +1,11 @@
-// The system calls that picolibc makes, by ecall, and the streams over them.
+// The system calls that picolibc makes, by ecall, and the streams over them. With FOR_BOARD it is
+// firmware that makes them, of the devices of rrs board.
 #include <errno.h>
 #include <signal.h>
 #include <stddef.h>
 #include <stdio-bufio.h>
 #include <stdio.h>
+#include <string.h>
 #include <sys/stat.h>
 #include <sys/time.h>
 #include <sys/times.h>
@@ -20,6 +22,71 @@ static int fail(int error)
     return -1;
 }
 
+#ifdef FOR_BOARD
+#define UART ((volatile unsigned char *)0x10000000)
+#define FINISHER (*(volatile unsigned *)0x100000)
+#define MTIME ((volatile unsigned *)0x200bff8)
+
+// A byte of the UART, for which the hart sleeps where nothing else wakes it
+static unsigned char received(void)
+{
+    UART[1] = 1;
+    while (!(UART[5] & 1)) {
+        __asm__ volatile("wfi");
+    }
+    return UART[0];
+}
+
+static long call(long number, long a, long b, long c)
+{
+    unsigned char *bytes = (unsigned char *)b;
+    switch (number) {
+    case 57: // close
+        return 0;
+    case 63: // read, to the end of a line
+        for (long count = 0; count < c; count++) {
+            bytes[count] = received();
+            if (bytes[count] == '\n') {
+                return count + 1;
+            }
+        }
+        return c;
+    case 64: // write
+        for (long count = 0; count < c; count++) {
+            *UART = bytes[count];
+        }
+        return c;
+    case 93: // exit
+        FINISHER = a == 0 ? 0x5555 : (unsigned)a << 16 | 0x3333;
+        return 0;
+    case 403: // clock_gettime64, of ten million ticks a second
+        for (unsigned high = MTIME[1];; high = MTIME[1]) {
+            unsigned long long ticks = (unsigned long long)high << 32 | MTIME[0];
+            if (high == MTIME[1]) {
+                ((long long *)b)[0] = ticks / 10000000;
+                ((long long *)b)[1] = ticks % 10000000 * 100;
+                return 0;
+            }
+        }
+    }
+    return fail(ENOSYS);
+}
+
+// What a trap says that the program does not take
+unsigned trap(unsigned cause, unsigned pc, unsigned value)
+{
+    unsigned words[] = {cause, pc, value};
+    static const char *const names[] = {"trap: mcause 0x", ", mepc 0x", ", mtval 0x"};
+    for (int i = 0; i < 3; i++) {
+        call(64, 2, (long)names[i], strlen(names[i]));
+        for (int shift = 28; shift >= 0; shift -= 4) {
+            call(64, 2, (long)&"0123456789abcdef"[words[i] >> shift & 15], 1);
+        }
+    }
+    call(64, 2, (long)"\n", 1);
+    _exit(1);
+}
+#else
 static long call(long number, long a, long b, long c)
 {
     register long a0 __asm__("a0") = a;
@@ -32,6 +99,7 @@ static long call(long number, long a, long b, long c)
     }
     return a0;
 }
+#endif
 
 // library.c has these for pipes too.
 #ifndef WITH_LIBRARY

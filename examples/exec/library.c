@@ -6,13 +6,17 @@
 #include <errno.h>
 #include <fcntl.h>
 #include <grp.h>
+#include <malloc.h>
 #include <poll.h>
 #include <pwd.h>
+#include <semaphore.h>
 #include <signal.h>
 #include <stdarg.h>
 #include <stddef.h>
 #include <stdint.h>
+#include <stdio-bufio.h>
 #include <stdio.h>
+#include <stdio_ext.h>
 #include <stdlib.h>
 #include <string.h>
 #include <sys/ioctl.h>
@@ -395,6 +399,26 @@ int tcsetattr(int fd, int when, const struct termios *terminal)
     return when < TCSANOW || when > TCSAFLUSH ? fail(EINVAL) : ioctl(fd, 0x5402 + when, terminal);
 }
 
+// TCSBRK and TCFLSH
+int tcdrain(int fd) { return ioctl(fd, 0x5409, 1L); }
+int tcflush(int fd, int queue) { return ioctl(fd, 0x540b, (long)queue); }
+
+speed_t cfgetospeed(const struct termios *terminal) { return terminal->c_cflag & CBAUD; }
+speed_t cfgetispeed(const struct termios *terminal) { return cfgetospeed(terminal); }
+int cfsetospeed(struct termios *terminal, speed_t speed)
+{
+    if ((speed & ~CBAUD) != 0) {
+        return fail(EINVAL);
+    }
+    terminal->c_cflag = (terminal->c_cflag & ~CBAUD) | speed;
+    return 0;
+}
+// 0 is that of the output.
+int cfsetispeed(struct termios *terminal, speed_t speed)
+{
+    return speed == B0 ? 0 : cfsetospeed(terminal, speed);
+}
+
 int isatty(int fd)
 {
     struct termios terminal;
@@ -476,6 +500,31 @@ int closedir(DIR *folder)
     return close(fd);
 }
 
+// What the buffer of a stream holds.
+static struct __file_bufio *buffer_of(FILE *stream) { return (struct __file_bufio *)stream; }
+static int is_for(FILE *stream, int way) { return (stream->flags & way) != 0; }
+size_t __fpending(FILE *stream)
+{
+    return buffer_of(stream)->dir == __SWR ? buffer_of(stream)->len : 0;
+}
+size_t __freadahead(FILE *stream)
+{
+    struct __file_bufio *buffer = buffer_of(stream);
+    return buffer->dir == __SRD ? buffer->len - buffer->off + (stream->unget != 0) : 0;
+}
+size_t __fbufsize(FILE *stream) { return buffer_of(stream)->size; }
+int __freadable(FILE *stream) { return is_for(stream, __SRD); }
+int __fwritable(FILE *stream) { return is_for(stream, __SWR); }
+int __freading(FILE *stream) { return !is_for(stream, __SWR) || buffer_of(stream)->dir == __SRD; }
+int __fwriting(FILE *stream) { return !is_for(stream, __SRD) || buffer_of(stream)->dir == __SWR; }
+int __flbf(FILE *stream) { return (buffer_of(stream)->bflags & __BLBF) != 0; }
+void __fpurge(FILE *stream)
+{
+    buffer_of(stream)->len = buffer_of(stream)->off = 0;
+    stream->unget = 0;
+}
+void __fseterr(FILE *stream) { stream->flags |= __SERR; }
+
 // Users. Where the environment has none, the number is 0.
 static long number_of(long number)
 {
@@ -491,16 +540,20 @@ gid_t getgid(void) { return number_of(176); }
 gid_t getegid(void) { return number_of(177); }
 pid_t getppid(void) { return number_of(173); }
 
-// None of them has a name.
+// The one user is called so, and no group has a name.
 struct passwd *getpwuid(uid_t user)
 {
-    (void)user;
-    return none(ENOENT);
+    static struct passwd entry = {
+        .pw_name = "user", .pw_passwd = "x", .pw_comment = "", .pw_gecos = "", .pw_dir = "/",
+        .pw_shell = "/bin/sh",
+    };
+    entry.pw_uid = getuid();
+    entry.pw_gid = getgid();
+    return user == entry.pw_uid ? &entry : none(ENOENT);
 }
 struct passwd *getpwnam(const char *name)
 {
-    (void)name;
-    return none(ENOENT);
+    return strcmp(name, "user") == 0 ? getpwuid(getuid()) : none(ENOENT);
 }
 struct group *getgrgid(gid_t group)
 {
@@ -556,6 +609,32 @@ pid_t waitpid(pid_t process, int *status, int options)
 {
     (void)process, (void)options;
     return wait(status);
+}
+
+// There is one thread: one that waits would never go on.
+int sem_init(sem_t *of, int shared, unsigned value)
+{
+    (void)shared;
+    of->value = value;
+    return value > SEM_VALUE_MAX ? fail(EINVAL) : 0;
+}
+int sem_destroy(sem_t *of)
+{
+    (void)of;
+    return 0;
+}
+int sem_post(sem_t *of) { return of->value == SEM_VALUE_MAX ? fail(EOVERFLOW) : (of->value++, 0); }
+int sem_wait(sem_t *of) { return of->value == 0 ? fail(EDEADLK) : (of->value--, 0); }
+int sem_trywait(sem_t *of) { return of->value == 0 ? fail(EAGAIN) : (of->value--, 0); }
+int sem_timedwait(sem_t *restrict of, const struct timespec *restrict until)
+{
+    (void)until;
+    return of->value == 0 ? fail(ETIMEDOUT) : (of->value--, 0);
+}
+int sem_getvalue(sem_t *restrict of, int *restrict value)
+{
+    *value = of->value;
+    return 0;
 }
 
 // A signal comes from raise alone, so none waits.
@@ -672,6 +751,15 @@ int gethostname(char *name, size_t size)
     }
     strlcpy(name, names.nodename, size);
     return strlen(names.nodename) < size ? 0 : fail(ENAMETOOLONG);
+}
+
+int getdtablesize(void) { return FOPEN_MAX; }
+
+const char *getprogname(void)
+{
+    extern const char *argument_0;
+    const char *last = argument_0 ? strrchr(argument_0, '/') : "";
+    return last ? last + (*last == '/') : argument_0;
 }
 
 long sysconf(int name)
@@ -825,6 +913,467 @@ ANY(_Bool, __atomic_is_lock_free, size_t size, const void *at)
 ANY(void, __sync_synchronize, void)
 {
 }
+
+// Bytes and texts, a word at a time: picolibc's take them one by one. A word that is aligned lies in one
+// page, so what is read of it before or behind the bytes that were asked for is mapped, and has no part
+// in the answer.
+#pragma GCC push_options
+#pragma GCC optimize("O2", "no-tree-loop-distribute-patterns")
+typedef uint32_t __attribute__((may_alias)) word;
+#define WORD sizeof(word)
+#define SAME_PLACE(a, b) ((((uintptr_t)(a) ^ (uintptr_t)(b)) & (WORD - 1)) == 0)
+#define IS_ALIGNED(a) (((uintptr_t)(a) & (WORD - 1)) == 0)
+// Whether a byte of a word is 0; where all are from 1 to 128 the first look tells it
+static inline int has_zero(word w)
+{
+    word may = (w - 0x01010101) & 0x80808080;
+    return __builtin_expect(may != 0, 0) && (may & ~w) != 0;
+}
+
+// Copies words to an aligned address from one that is not: each is made of two aligned ones.
+static const char *copy_shifted(word *to, const char *from, size_t words)
+{
+    unsigned shift = 8 * ((uintptr_t)from & (WORD - 1));
+    const word *next = (const word *)(from - shift / 8);
+    for (word low = *next++; words > 0; words--) {
+        word high = *next++;
+        *to++ = low >> shift | high << (32 - shift);
+        low = high;
+    }
+    return (const char *)(next - 1) + shift / 8;
+}
+
+// Copies forward, which is right where the bytes lie apart, and where they go to lower addresses.
+static void copy(char *to, const char *from, size_t size)
+{
+    if (size >= 4 * WORD) {
+        for (; !IS_ALIGNED(to); size--) {
+            *to++ = *from++;
+        }
+        if (!IS_ALIGNED(from)) {
+            from = copy_shifted((word *)to, from, size / WORD);
+            to += size & -WORD;
+            size &= WORD - 1;
+        }
+        for (; size >= 8 * WORD; size -= 8 * WORD, to += 8 * WORD, from += 8 * WORD) {
+            const word *some = (const word *)from;
+            word a = some[0], b = some[1], c = some[2], d = some[3];
+            word e = some[4], f = some[5], g = some[6], h = some[7];
+            word *there = (word *)to;
+            there[0] = a, there[1] = b, there[2] = c, there[3] = d;
+            there[4] = e, there[5] = f, there[6] = g, there[7] = h;
+        }
+        for (; size >= WORD; size -= WORD, to += WORD, from += WORD) {
+            *(word *)to = *(const word *)from;
+        }
+    }
+    for (; size > 0; size--) {
+        *to++ = *from++;
+    }
+}
+
+void *memcpy(void *restrict into, const void *restrict bytes, size_t size)
+{
+    copy(into, bytes, size);
+    return into;
+}
+
+void *memmove(void *into, const void *bytes, size_t size)
+{
+    char *to = into;
+    const char *from = bytes;
+    if ((uintptr_t)to - (uintptr_t)from >= size) {
+        copy(to, from, size);
+        return into;
+    }
+    to += size, from += size;
+    if (SAME_PLACE(to, from)) {
+        for (; size > 0 && !IS_ALIGNED(to); size--) {
+            *--to = *--from;
+        }
+        for (; size >= WORD; size -= WORD) {
+            to -= WORD, from -= WORD;
+            *(word *)to = *(const word *)from;
+        }
+    }
+    for (; size > 0; size--) {
+        *--to = *--from;
+    }
+    return into;
+}
+
+void *memset(void *into, int byte, size_t size)
+{
+    unsigned char *to = into;
+    word all = (unsigned char)byte * 0x01010101u;
+    if (size >= 4 * WORD) {
+        for (; !IS_ALIGNED(to); size--) {
+            *to++ = byte;
+        }
+        for (; size >= 8 * WORD; size -= 8 * WORD, to += 8 * WORD) {
+            word *there = (word *)to;
+            there[0] = all, there[1] = all, there[2] = all, there[3] = all;
+            there[4] = all, there[5] = all, there[6] = all, there[7] = all;
+        }
+        for (; size >= WORD; size -= WORD, to += WORD) {
+            *(word *)to = all;
+        }
+    }
+    for (; size > 0; size--) {
+        *to++ = byte;
+    }
+    return into;
+}
+
+int memcmp(const void *one, const void *other, size_t size)
+{
+    const unsigned char *a = one, *b = other;
+    if (size >= 4 * WORD) {
+        for (; !IS_ALIGNED(a) && *a == *b; size--) {
+            a++, b++;
+        }
+        if (IS_ALIGNED(a) && IS_ALIGNED(b)) {
+            for (; size >= 4 * WORD; a += 4 * WORD, b += 4 * WORD, size -= 4 * WORD) {
+                const word *some = (const word *)a, *others = (const word *)b;
+                if (some[0] != others[0] || some[1] != others[1] || some[2] != others[2] ||
+                    some[3] != others[3]) {
+                    break;
+                }
+            }
+        } else if (IS_ALIGNED(a)) {
+            unsigned shift = 8 * ((uintptr_t)b & (WORD - 1));
+            const word *next = (const word *)(b - shift / 8);
+            for (word low = *next++; size >= WORD; a += WORD, b += WORD, size -= WORD) {
+                word high = *next++;
+                if (*(const word *)a != (low >> shift | high << (32 - shift))) {
+                    break;
+                }
+                low = high;
+            }
+        }
+    }
+    for (; size > 0; size--, a++, b++) {
+        if (*a != *b) {
+            return *a - *b;
+        }
+    }
+    return 0;
+}
+
+size_t strlen(const char *text)
+{
+    const char *at = text;
+    for (; !IS_ALIGNED(at); at++) {
+        if (!*at) {
+            return at - text;
+        }
+    }
+    while (!has_zero(*(const word *)at)) {
+        at += WORD;
+    }
+    while (*at) {
+        at++;
+    }
+    return at - text;
+}
+
+int strcmp(const char *one, const char *other)
+{
+    const unsigned char *a = (const unsigned char *)one, *b = (const unsigned char *)other;
+    for (; !IS_ALIGNED(a) && *a && *a == *b; a++, b++) {
+    }
+    if (IS_ALIGNED(a) && IS_ALIGNED(b)) {
+        for (word w = *(const word *)a; w == *(const word *)b; w = *(const word *)a) {
+            if (has_zero(w)) {
+                return 0;
+            }
+            a += WORD, b += WORD;
+        }
+    } else if (IS_ALIGNED(a)) {
+        // the next word of the other text is read where it does not end before
+        unsigned shift = 8 * ((uintptr_t)b & (WORD - 1));
+        const word *next = (const word *)(b - shift / 8);
+        word low = *next++, high = low | ((1u << shift) - 1);
+        while (!has_zero(high)) {
+            high = *next++;
+            word own = *(const word *)a;
+            if (own != (low >> shift | high << (32 - shift))) {
+                break;
+            }
+            if (has_zero(own)) {
+                return 0;
+            }
+            low = high;
+            a += WORD, b += WORD;
+        }
+    }
+    for (; *a && *a == *b; a++, b++) {
+    }
+    return *a - *b;
+}
+// The heap. Its memory is chunks one after the other, each of a multiple of 16 bytes. The word before what
+// the program has of a chunk is its size with two flags. One that is free stands in the list of its class,
+// and has its size in its last word too. Behind the last chunk is memory that none has, up to the break.
+#define CHUNK 16u
+#define LARGEST (PTRDIFF_MAX - 0x20000)
+enum { IS_USED = 1, BEFORE_IS_USED = 2 };
+struct chunk {
+    struct chunk *next;
+    struct chunk **from;
+};
+static struct chunk *classes[128];
+static word class_is_there[4];
+// Where the first chunk begins, where the next one begins behind the last one, the break, and from where
+// on no chunk ever was
+static char *heap_first, *heap_top, *heap_end, *heap_fresh;
+static size_t heap_all;
+
+static word *head_of(void *at) { return (word *)at - 1; }
+static size_t size_of(void *at) { return *head_of(at) & -CHUNK; }
+static void *behind(void *at) { return (char *)at + size_of(at); }
+
+// 31 classes of one size each, and from 512 bytes on four for each power of 2
+static unsigned class_of(size_t size)
+{
+    unsigned power = 31 - __builtin_clz(size);
+    return power < 9 ? size / CHUNK : 32 + 4 * (power - 9) + (size >> (power - 2) & 3);
+}
+
+static void add_free(void *at, size_t size)
+{
+    struct chunk *chunk = at, **list = &classes[class_of(size)];
+    *head_of(at) = size | (*head_of(at) & BEFORE_IS_USED);
+    *head_of((char *)at + size) &= ~BEFORE_IS_USED;
+    head_of((char *)at + size)[-1] = size;
+    *chunk = (struct chunk){.next = *list, .from = list};
+    if (*list) {
+        (*list)->from = &chunk->next;
+    }
+    *list = chunk;
+    class_is_there[class_of(size) / 32] |= 1u << class_of(size) % 32;
+}
+
+static void remove_free(struct chunk *chunk)
+{
+    unsigned class = class_of(size_of(chunk));
+    *chunk->from = chunk->next;
+    if (chunk->next) {
+        chunk->next->from = chunk->from;
+    }
+    if (!classes[class]) {
+        class_is_there[class / 32] &= ~(1u << class % 32);
+    }
+}
+
+// A free chunk of a size: one of its class that is large enough, or the first of a larger class
+static struct chunk *found_free(size_t size)
+{
+    unsigned class = class_of(size);
+    struct chunk *chunk = classes[class];
+    while (chunk && size_of(chunk) < size) {
+        chunk = chunk->next;
+    }
+    for (unsigned at = ++class / 32; !chunk && at < 4; at++, class = 0) {
+        word there = class_is_there[at] & -(1u << class % 32);
+        chunk = there ? classes[32 * at + __builtin_ctz(there)] : NULL;
+    }
+    return chunk;
+}
+
+// Has a size behind the last chunk. Where the break moved meanwhile, the heap goes on from there, behind
+// a word that is used.
+static int has_top(size_t size)
+{
+    if (heap_end && (size_t)(heap_end - heap_top) >= size) {
+        return 1;
+    }
+    size_t wanted = (size + 2 * CHUNK + 0xffff) & -0x10000u;
+    char *more = sbrk(wanted);
+    if (more == (void *)-1) {
+        wanted = size + 2 * CHUNK;
+        more = sbrk(wanted);
+    }
+    if (more == (void *)-1) {
+        return 0;
+    }
+    if (more != heap_end) {
+        if (heap_end) {
+            *head_of(heap_top) |= IS_USED | CHUNK;
+        }
+        heap_top = heap_fresh = (char *)(((uintptr_t)more + CHUNK + WORD - 1) & -CHUNK);
+        *head_of(heap_top) = BEFORE_IS_USED;
+        heap_first = heap_first ? heap_first : heap_top;
+    }
+    heap_end = more + wanted;
+    heap_all += wanted;
+    return 1;
+}
+
+// Gives back a chunk, and makes one with those beside it that are free. gcc takes for granted that free
+// reads nothing before what it is given, so this has another name, as take has.
+static void give_back(void *at)
+{
+    size_t size = size_of(at);
+    char *next = behind(at);
+    if (!(*head_of(at) & BEFORE_IS_USED)) {
+        size_t before = head_of(at)[-1];
+        at = (char *)at - before;
+        size += before;
+        remove_free(at);
+    }
+    if (next == heap_top) {
+        heap_top = at;
+        *head_of(at) &= BEFORE_IS_USED;
+        return;
+    }
+    if (!(*head_of(next) & IS_USED)) {
+        size += size_of(next);
+        remove_free((struct chunk *)next);
+    }
+    add_free(at, size);
+}
+
+// Gives back what a chunk that is used has behind a size
+static void shorten(void *at, size_t size)
+{
+    size_t rest = size_of(at) - size;
+    if (rest >= CHUNK) {
+        *head_of(at) -= rest;
+        *head_of(behind(at)) = rest | IS_USED | BEFORE_IS_USED;
+        give_back(behind(at));
+    }
+}
+
+static size_t with_head(size_t size) { return (size + WORD + CHUNK - 1) & -CHUNK; }
+
+static void *take(size_t size)
+{
+    if (size > LARGEST) {
+        return none(ENOMEM);
+    }
+    size = with_head(size);
+    struct chunk *chunk = found_free(size);
+    if (chunk) {
+        remove_free(chunk);
+        *head_of(chunk) |= IS_USED;
+        *head_of(behind(chunk)) |= BEFORE_IS_USED;
+        shorten(chunk, size);
+        return chunk;
+    }
+    if (!has_top(size + CHUNK)) {
+        return none(ENOMEM);
+    }
+    chunk = (struct chunk *)heap_top;
+    *head_of(chunk) = size | IS_USED | (*head_of(chunk) & BEFORE_IS_USED);
+    heap_top += size;
+    heap_fresh = heap_top > heap_fresh ? heap_top : heap_fresh;
+    *head_of(heap_top) = BEFORE_IS_USED;
+    return chunk;
+}
+
+void *malloc(size_t size) { return take(size); }
+// What is below the heap is a standard stream that was closed.
+void free(void *at)
+{
+    if (heap_first && (char *)at >= heap_first) {
+        give_back(at);
+    }
+}
+
+// What was never used is 0.
+void *calloc(size_t count, size_t size)
+{
+    char *fresh = heap_fresh;
+    if (__builtin_mul_overflow(count, size, &size)) {
+        return none(ENOMEM);
+    }
+    char *at = take(size);
+    if (at && at < fresh) {
+        memset(at, 0, size < (size_t)(fresh - at) ? size : (size_t)(fresh - at));
+    }
+    return at;
+}
+
+void *realloc(void *at, size_t size)
+{
+    if (!at || size > LARGEST) {
+        return at ? none(ENOMEM) : take(size);
+    }
+    size_t wanted = with_head(size), have = size_of(at);
+    char *next = behind(at);
+    if (have < wanted && next == heap_top && has_top(wanted - have + CHUNK) && next == heap_top) {
+        *head_of(at) += wanted - have;
+        heap_top += wanted - have;
+        heap_fresh = heap_top > heap_fresh ? heap_top : heap_fresh;
+        *head_of(heap_top) = BEFORE_IS_USED;
+        return at;
+    }
+    if (have < wanted && next != heap_top && !(*head_of(next) & IS_USED) &&
+        have + size_of(next) >= wanted) {
+        remove_free((struct chunk *)next);
+        *head_of(at) += size_of(next);
+        *head_of(behind(at)) |= BEFORE_IS_USED;
+    }
+    if (size_of(at) >= wanted) {
+        shorten(at, wanted);
+        return at;
+    }
+    void *other = take(size);
+    if (other) {
+        memcpy(other, at, have - WORD);
+        give_back(at);
+    }
+    return other;
+}
+
+void *memalign(size_t alignment, size_t size)
+{
+    if (size > LARGEST - alignment) {
+        return none(ENOMEM);
+    }
+    char *at = take(alignment <= CHUNK ? size : size + alignment);
+    char *to = (char *)(((uintptr_t)at + alignment - 1) & -alignment);
+    if (at && alignment > CHUNK) {
+        if (to != at) {
+            size_t before = to - at;
+            *head_of(to) = (size_of(at) - before) | IS_USED | BEFORE_IS_USED;
+            *head_of(at) -= size_of(at) - before;
+            give_back(at);
+        }
+        shorten(to, with_head(size));
+    }
+    return at ? alignment > CHUNK ? to : at : NULL;
+}
+
+void *aligned_alloc(size_t alignment, size_t size) { return memalign(alignment, size); }
+int posix_memalign(void **into, size_t alignment, size_t size)
+{
+    if (alignment < sizeof *into || (alignment & (alignment - 1)) != 0) {
+        return EINVAL;
+    }
+    int before = errno;
+    void *at = memalign(alignment, size);
+    errno = before;
+    if (at) {
+        *into = at;
+    }
+    return at ? 0 : ENOMEM;
+}
+void *valloc(size_t size) { return memalign(4096, size); }
+void *pvalloc(size_t size) { return memalign(4096, (size + 4095) & -4096); }
+size_t malloc_usable_size(void *at) { return at ? size_of(at) - WORD : 0; }
+void cfree(void *at) { free(at); }
+int mallopt(int parameter, int value)
+{
+    (void)parameter, (void)value;
+    return 0;
+}
+struct mallinfo mallinfo(void)
+{
+    return (struct mallinfo){.arena = heap_all, .keepcost = heap_end - heap_top};
+}
+
+#pragma GCC pop_options
 
 // Of C++, by the names of its ABI: where memory is wanting a program without exceptions ends.
 static void *new(size_t size)

@@ -1,6 +1,8 @@
-/* A raw file that is loaded at address 0: the code from there on, and then the data. */
+/* A raw file that is loaded at address 0, and firmware for the RAM of a board: the code from BASE on, and
+   then the data. SIZE is that of the memory. */
 OUTPUT_ARCH(riscv)
 ENTRY(_start)
+EXTERN(_start)
 SECTIONS
 {
     . = BASE;
@@ -42,7 +44,8 @@ SECTIONS
     }
     /* What is above the end of the heap is for the stack. */
     __heap_start = .;
-    __heap_end = BASE + 0xc0000;
+    __stack = BASE + (DEFINED(SIZE) ? SIZE : 1M);
+    __heap_end = __stack - 256K;
     .heap (NOLOAD) : { . += MAX(__heap_start, __heap_end) - __heap_start; }
 }
-ASSERT(__heap_start <= __heap_end, "the program does not fit below 0xc0000, where the stack begins")
+ASSERT(__heap_start <= __heap_end, "the program does not fit below its stack of 256 KiB")

@@ -18,5 +18,8 @@ _start:
         addi    a2, a2, 4
         la      t0, environ
         sw      a2, 0(t0)
+        la      t0, argument_0
+        lw      t1, 0(a1)
+        sw      t1, 0(t0)
         call    main
         call    exit

@@ -5,6 +5,9 @@
 #include <time.h>
 #include <unistd.h>
 
+// The name by which the program was called, or NULL
+const char *argument_0;
+
 static uintptr_t brk_to(uintptr_t address)
 {
     register uintptr_t a0 __asm__("a0") = address;

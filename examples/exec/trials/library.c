@@ -5,14 +5,19 @@
 #include <grp.h>
 #include <poll.h>
 #include <pwd.h>
+#include <features.h>
+#include <semaphore.h>
 #include <setjmp.h>
 #include <signal.h>
 #include <stdio.h>
+#include <stdio_ext.h>
+#include <stdlib.h>
 #include <string.h>
 #include <sys/ioctl.h>
 #include <sys/mman.h>
 #include <sys/random.h>
 #include <sys/resource.h>
+#include <sys/socket.h>
 #include <sys/stat.h>
 #include <sys/time.h>
 #include <sys/utsname.h>
@@ -25,7 +30,7 @@
 static const char *const names[] = {
     [0] = "no error", [ENOENT] = "ENOENT", [EIO] = "EIO", [EBADF] = "EBADF", [ECHILD] = "ECHILD",
     [EAGAIN] = "EAGAIN", [EINVAL] = "EINVAL", [ENOTTY] = "ENOTTY", [ERANGE] = "ERANGE",
-    [ENOSYS] = "ENOSYS", [ENAMETOOLONG] = "ENAMETOOLONG",
+    [ENOSYS] = "ENOSYS", [ENAMETOOLONG] = "ENAMETOOLONG", [EDEADLK] = "EDEADLK",
 };
 
 static void says(const char *what, long answer)
@@ -74,6 +79,12 @@ static void descriptors(void)
     SAYS(tcgetattr(0, &terminal));
     SAYS(tcsetattr(0, TCSANOW, &terminal));
     SAYS(tcsetattr(0, 3, &terminal));
+    SAYS(cfsetospeed(&terminal, B115200));
+    SAYS(cfsetispeed(&terminal, 9600));
+    SAYS(cfgetispeed(&terminal) == B115200 && (terminal.c_cflag & CSIZE) == CS8);
+    SAYS(tcdrain(9));
+    SAYS(tcflush(9, TCIFLUSH));
+    SAYS(ioctl(9, FIONREAD, room));
     SAYS(dup(9));
     SAYS(dup2(9, 8));
     SAYS(fchmod(9, 0600));
@@ -123,6 +134,9 @@ static void users_and_processes(void)
     SAYS(getuid() == geteuid());
     SAYS(getgid() == getegid());
     GIVES(getpwuid(getuid()));
+    SAYS(getpwuid(getuid())->pw_uid == getuid());
+    SAYS(strcmp(getpwuid(getuid())->pw_name, getpwnam("user")->pw_name));
+    GIVES(getpwuid(getuid() + 1));
     GIVES(getpwnam("none"));
     GIVES(getgrgid(getgid()));
     GIVES(getgrnam("none"));
@@ -137,6 +151,15 @@ static void users_and_processes(void)
     SAYS(pclose(stdin));
     SAYS(wait(NULL));
     SAYS(waitpid(1, NULL, 0));
+    sem_t semaphore;
+    SAYS(sem_init(&semaphore, 0, 1));
+    SAYS(sem_wait(&semaphore));
+    SAYS(sem_wait(&semaphore));
+    SAYS(sem_trywait(&semaphore));
+    SAYS(sem_post(&semaphore));
+    SAYS(sem_trywait(&semaphore));
+    SAYS(sem_destroy(&semaphore));
+    SAYS(sizeof(struct sockaddr_storage) - sizeof(struct sockaddr));
 }
 
 static int caught;
@@ -201,6 +224,22 @@ uid_t geteuid(void)
     return getuid();
 }
 
+static void streams(void)
+{
+    SAYS(__fpending(stderr) + __fwriting(stdout) + __flbf(stdout));
+    SAYS(__freading(stdin) + 2 * __fwriting(stdin) + 4 * __freadable(stdin) + 8 * __fwritable(stdin));
+    SAYS(getchar());
+    SAYS(__freadahead(stdin) > 0);
+    SAYS(ungetc('a', stdin));
+    __fpurge(stdin);
+    SAYS(__freadahead(stdin));
+    SAYS(__fbufsize(stdin) == BUFSIZ);
+    __fseterr(stdin);
+    SAYS(ferror(stdin) != 0);
+    SAYS(strncmp(getprogname(), "library", 7));
+    SAYS(getdtablesize());
+}
+
 static int jumps(void)
 {
     jmp_buf here;
@@ -217,6 +256,7 @@ int main(void)
     users_and_processes();
     signals();
     time_and_machine();
+    streams();
     SAYS(geteuid_calls);
     SAYS(jumps());
     flockfile(stdout);

@@ -1,0 +1,2 @@
+// What programs for glibc include by this name.
+#include <sys/features.h>
