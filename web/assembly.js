@@ -85,33 +85,53 @@ function columnOf(line, byte) {
   return new TextDecoder("utf-8", { ignoreBOM: true }).decode(before, { stream: true }).length + 1;
 }
 
-/* What is told too where a macro is written as RARS has it, which GNU's assembler does not read. */
-const MACRO_OF_RARS = "; as RARS writes it: here .macro name x begins it, \\x is its parameter, "
-  + "and .endm ends it";
+/* What stands before a source: the part that is given, and where RARS has its data. */
+const beforeOf = (given, isRars) => (isRars ? RARS_DATA : "")
+  + (given === "" ? "" : `${given.replace(/\n$/, "")}\n.text\n`);
 
-/* What is wrong in a line of a source, and what was meant where the kit does not know it. */
-function withMeant(what, line, text) {
-  if (!/(^|[;:])\s*\.macro\b/.test(line)) return what;
-  return line.includes("%") || /^\s*\.end_macro\b/m.test(text) ? what + MACRO_OF_RARS : what;
+/* A mistake in what stands before a source, on one of its lines. */
+function mistakeOfGiven(line, text) {
+  const [, name] = /^symbol is not defined: ([^\s;]+)/.exec(text) ?? [];
+  const what = name === undefined ? `What is given has a mistake on its line ${line}: ${text}`
+    : `What is given uses ${name}: the program needs this label.`;
+  return { line: 0, column: 1, text: what, ofGiven: line, isLabel: name !== undefined };
+}
+
+/* A label by which the program would begin elsewhere than where what is given has it begin. */
+function mistakesOfEntry(labels, before) {
+  const own = labels.find(({ name, line }) => name === "_start" && line > before);
+  const given = labels.find(({ name, line }) => name === "main" && line <= before);
+  return own && given ? [{
+    line: own.line - before, column: 1,
+    text: "what is given begins the program, at main: no label _start can stand here",
+  }] : [];
 }
 
 /** Assembles a source from an address on: `{ size, entry, bytes, statements, labels, mistakes }`. A
  * statement has its line, its text, its address and its size, and a label its name and its address;
  * local labels are left out. Where there are mistakes, each with its line, column and text, or more
- * bytes than a memory has, there are no bytes. Null where there is too little room for it. */
-function assemble(text, base, kit, mostRoom) {
-  const made = kit.assemble(text, base, mostRoom);
+ * bytes than a memory has, there are no bytes. Null where there is too little room for it. What is
+ * `given` stands before it, and its statements have the line 0. With `isRars` data has its address. */
+function assemble(text, base, kit, mostRoom, given = "", isRars = false) {
+  const start = beforeOf(given, isRars);
+  const before = start.split("\n").length - 1;
+  const source = start + text;
+  const rewritten = fromRars(source);
+  const made = kit.assemble(rewritten.text, base, mostRoom);
   if (made === null) return null;
-  const lines = text.split("\n");
+  const lines = rewritten.text.split("\n");
+  const columnIn = (line, byte) =>
+    rewritten.columnOf(line, columnOf(lines[line - 1], byte));
+  const ahead = isRars ? RARS_DATA.split("\n").length - 1 : 0;
+  const mistakes = made.mistakes.map(({ line, column, text: what }) => (line > before
+    ? { line: line - before, column: columnIn(line, column), text: what }
+    : mistakeOfGiven(line - ahead, what)));
   return {
     ...made,
-    statements: withTexts(made.statements, withoutBlocks(text).split("\n"))
-      .filter(({ size }) => size > 0),
+    statements: withTexts(made.statements, withoutBlocks(source).split("\n"))
+      .filter(({ size }) => size > 0)
+      .map((each) => ({ ...each, line: Math.max(0, each.line - before) })),
     labels: made.labels.filter(({ name }) => !/^[0-9]/.test(name)),
-    mistakes: made.mistakes.map(({ line, column, text: what }) =>
-      ({
-        line, column: columnOf(lines[line - 1], column),
-        text: withMeant(what, lines[line - 1], text),
-      })),
+    mistakes: mistakes.length > 0 ? mistakes : mistakesOfEntry(made.labels, before),
   };
 }

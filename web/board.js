@@ -23,6 +23,11 @@ const BOARD_SLICE_MS = 30;
 const BOARD_SLICE_STEPS = 1 << 22;
 const BOARD_STEPS = 1 << 18;
 
+/* How many steps are asked for at once where each is looked at, for a breakpoint, and how many are
+ * made again at most to find the first trap. */
+const WATCHED_STEPS = 1 << 14;
+const MOST_AGAIN = 1 << 22;
+
 /* How many lines of the terminal are kept. */
 const LINES_KEPT = 2000;
 
@@ -174,19 +179,27 @@ class Screen {
 
 /* ---- the board */
 
+/* What mcause says of an illegal instruction. */
+const ILLEGAL_CAUSE = 2;
+
 /* What is said of a board that does not go on, by what ended its run. */
 const BOARD_ENDS = {
   [EVENT.FINISHED]: (status) => `It was powered off, with status ${status}.`,
   [EVENT.NOTHING_WAKES]: () => "It waits, and nothing can wake it.",
   [EVENT.SPINS]: () => "It jumps to itself, and no interrupt can be taken.",
-  [EVENT.LACKS_HANDLER]: () => "A trap went to where mtvec points, and no memory is there.",
   [EVENT.RESTARTS]: () => "It asked to be started anew.",
 };
+
+/* Why a word is none that the hart has, or "": extension C has instructions of 2 bytes, which do not
+ * end with two ones. */
+const whyCompressed = (word) => (word & 0xffff && (word & 3) !== 3
+  ? " It is a compressed one, of extension C, which this hart has not: build the image for rv32ima." : "");
 
 /** A board with an image, and what is typed into it. */
 class Board {
   constructor(module) {
     Object.assign(this, { module, screen: new Screen(), onChange: () => {}, turn: 0 });
+    this.stops = new Set();
   }
 
   /** Opens an image: an executable, or raw bytes, which stand at the start of RAM. Returns "", or why
@@ -207,16 +220,23 @@ class Board {
 
   /** Has the board as it starts: RAM with the image and the device tree, and nothing printed. */
   reset() {
-    const { kit, image } = this;
     this.pause();
+    this.start();
+    Object.assign(this, {
+      steps: 0, typed: [], handed: 0, ending: "", isAtStop: false, isWaiting: false, milliseconds: 0,
+    });
+    this.screen.clear();
+    this.onChange();
+  }
+
+  /* Has the hart and RAM as they start. */
+  start() {
+    const { kit, image } = this;
     kit.reset(RAM_START);
     if (isElf(image)) kit.loadElf(image);
     else kit.bytes.set(image);
     kit.bytes.set(deviceTree(RAM_BYTES), RAM_BYTES - TREE_ROOM);
     kit.x[11] = RAM_START + RAM_BYTES - TREE_ROOM;
-    Object.assign(this, { steps: 0, typed: [], ending: "", isWaiting: false, milliseconds: 0 });
-    this.screen.clear();
-    this.onChange();
   }
 
   /** For how many milliseconds it has run. */
@@ -233,7 +253,7 @@ class Board {
   /** Runs the board, until it ends or is paused. */
   run() {
     if (this.isRunning || this.ending !== "") return;
-    this.isRunning = true;
+    Object.assign(this, { isRunning: true, isAtStop: false });
     // from now on the time of the board goes no faster than that of the host where a hart waits
     this.timeAtStart = this.kit.time;
     this.begun = performance.now();
@@ -251,8 +271,24 @@ class Board {
   /** Makes one step. */
   step() {
     this.pause();
+    this.isAtStop = false;
     if (this.ending === "") this.serve(this.kit.run(1));
     this.onChange();
+  }
+
+  /* Makes steps up to an event or a breakpoint, where some are set, each of which is looked at. */
+  makeSteps() {
+    const { kit, stops } = this;
+    if (stops.size === 0) return kit.run(BOARD_STEPS);
+    let steps = 0;
+    while (steps < WATCHED_STEPS) {
+      const end = kit.run(1);
+      steps += end.steps;
+      if (end.event !== EVENT.NONE) return { ...end, steps };
+      this.isAtStop = stops.has(kit.pc);
+      if (this.isAtStop) break;
+    }
+    return { steps, event: EVENT.NONE, value: 0 };
   }
 
   /* Makes steps for some milliseconds, and sets the next slice for later. */
@@ -262,11 +298,49 @@ class Board {
     const most = this.steps + BOARD_SLICE_STEPS;
     let wait = 0;
     do {
-      wait = this.serve(this.kit.run(BOARD_STEPS));
-    } while (wait === 0 && this.ending === "" && this.steps < most && performance.now() < end);
-    if (this.ending !== "") this.pause();
+      wait = this.serveRun();
+    } while (wait === 0 && !this.isOver && this.steps < most && performance.now() < end);
+    if (this.isOver) this.pause();
     else if (wait !== Infinity) setTimeout(() => this.makeSlice(turn), wait);
     this.onChange();
+  }
+
+  /* Whether a run ends here: the board has ended, or is at a breakpoint. */
+  get isOver() {
+    return this.ending !== "" || this.isAtStop;
+  }
+
+  /* Makes steps, and serves what they have ended with. Where none of many retired, each took a trap
+   * that leads to the next: so it is for ever. */
+  serveRun() {
+    const { time } = this.kit;
+    const end = this.makeSteps();
+    const wait = this.serve(end);
+    const isStuck = end.event === EVENT.NONE && end.steps >= WATCHED_STEPS && this.kit.time === time;
+    if (isStuck) this.ending = `It traps for ever, in its own handler: ${this.trapTold()}`;
+    return wait;
+  }
+
+  /* What the latest trap was, by the CSRs, as `illegal instruction at 0x80000000.` */
+  trapTold() {
+    const { csrs, words } = this.kit;
+    const [cause, address] = [csrs[CSR.mcause], csrs[CSR.mepc]];
+    const told = `${CAUSES[cause] ?? "a trap"} at ${hex(address)}.`;
+    return cause === ILLEGAL_CAUSE ? told + whyCompressed(words[(address - RAM_START) / 4]) : told;
+  }
+
+  /* Why the board has no handler that can be fetched: where mtvec points, and the trap that went
+   * there. Its CSRs tell of the fetch there, so the steps before it are made again, if nothing was
+   * typed that would have to be typed again. */
+  lacksHandler() {
+    const { kit, steps } = this;
+    const where = `A trap went to where mtvec points, ${hex(kit.csrs[CSR.mtvec])}, and no memory is there`;
+    if (this.handed > 0 || steps < 2 || steps > MOST_AGAIN) return `${where}.`;
+    this.start();
+    for (let made = 0; made < steps - 1;) made += kit.run(steps - 1 - made).steps;
+    const first = this.trapTold();
+    kit.run(1);
+    return `${where}: ${first}`;
   }
 
   /* Goes on where the hart waited for what was just typed. */
@@ -292,9 +366,11 @@ class Board {
         return this.waitForInput();
       case EVENT.FINISHED:
       case EVENT.SPINS:
-      case EVENT.LACKS_HANDLER:
       case EVENT.RESTARTS:
         this.ending = BOARD_ENDS[event](value);
+        return 0;
+      case EVENT.LACKS_HANDLER:
+        this.ending = this.lacksHandler();
         return 0;
       default:
         return 0;
@@ -303,7 +379,7 @@ class Board {
 
   /* Hands the UART the next typed byte, if there is one and it takes it. */
   hand() {
-    if (this.typed.length > 0 && this.kit.receive(this.typed[0])) this.typed.shift();
+    if (this.typed.length > 0 && this.kit.receive(this.typed[0])) this.handed += this.typed.splice(0, 1).length;
   }
 
   /* A wait that a typed byte alone can end, or nothing. */

@@ -141,7 +141,7 @@ const ENVIRONMENTS = {
     },
   },
   rars: {
-    name: "RARS", number: REGISTER.A7,
+    name: "RARS", number: REGISTER.A7, hasKeys: true,
     calls: {
       1: { name: "PrintInt", about: "prints x10 in decimal", serve: printed(REGISTER.A0, decimal) },
       4: {
@@ -161,6 +161,15 @@ const ENVIRONMENTS = {
       10: { name: "Exit", about: "ends, with status 0", serve: exitWithZero },
       11: { name: "PrintChar", about: "prints the byte x10", serve: printByte(REGISTER.A0) },
       12: { name: "ReadChar", about: "reads a byte", serve: readByte },
+      17: {
+        name: "GetCWD", about: "puts the name of the folder, /, at x10, where x11 bytes are",
+        serve: folderCall,
+      },
+      30: {
+        name: "Time", about: "gives the milliseconds since 1970, their high half in x11",
+        serve: millisecondsCall,
+      },
+      32: { name: "Sleep", about: "waits x10 milliseconds", serve: sleepCall },
       34: {
         name: "PrintIntHex", about: "prints x10 in hexadecimal",
         serve: printed(REGISTER.A0, (value) => hex(value)),
@@ -172,6 +181,17 @@ const ENVIRONMENTS = {
       36: {
         name: "PrintIntUnsigned", about: "prints x10 in decimal, without a sign",
         serve: printed(REGISTER.A0, String),
+      },
+      40: {
+        name: "RandSeed", about: "starts the generator x10 by the seed x11", serve: seedCall,
+      },
+      41: {
+        name: "RandInt", about: "gives a random number, of the generator x10",
+        serve: anyNumberCall,
+      },
+      42: {
+        name: "RandIntRange", about: "gives one that is less than x11, of the generator x10",
+        serve: numberBelowCall,
       },
       93: { name: "Exit2", about: "ends, with status x10", serve: exitWith(REGISTER.A0) },
     },

@@ -31,6 +31,36 @@ const lineStartsOf = (text) => {
 /* How far a line is indented by Tab, and behind a label. */
 const INDENT = "    ";
 
+/* How many mistakes of a text are told at most (docs/C.md). */
+const MOST_MISTAKES = 20;
+
+/* How many lines end in a part of a text. */
+const linesIn = (text, from, to) => {
+  let count = 0;
+  for (let at = text.indexOf("\n", from); at >= 0 && at < to; at = text.indexOf("\n", at + 1)) count++;
+  return count;
+};
+
+/** Where each line of a text comes from that was changed at one place: a list of numbers by its lines,
+ * of which `origins` has those by the lines before. A line that is new has 0. */
+function originsAfter(origins, before, after) {
+  const most = Math.min(before.length, after.length);
+  let start = 0;
+  while (start < most && before[start] === after[start]) start++;
+  let end = 0;
+  while (end < most - start && before.at(-1 - end) === after.at(-1 - end)) end++;
+  const first = linesIn(before, 0, start);
+  const behind = linesIn(before, before.length - end, before.length);
+  const old = origins.slice(first, origins.length - behind);
+  const count = linesIn(after, 0, after.length) + 1 - first - behind;
+  const lines = new Array(count).fill(0);
+  // what was put in at the start of a line stands before it
+  const isBefore = start === 0 || before[start - 1] === "\n";
+  const shift = isBefore ? count - old.length : 0;
+  old.forEach((line, at) => { if (lines[at + shift] === 0) lines[at + shift] = line; });
+  return [...origins.slice(0, first), ...lines, ...origins.slice(origins.length - behind)];
+}
+
 /** The panel in which a program is written, in the place of the listing. */
 class EditorView {
   constructor(session) {
@@ -38,11 +68,15 @@ class EditorView {
     // the text, which a field gives with other ends of lines than a file may have
     this.text = "";
     this.onChange = () => {};
+    this.onStop = () => {};
     this.mistakes = [];
     this.starts = [0];
     this.colouredLines = [0, 0];
     this.blocks = ["above", "in-view", "below"].map((name) => make("div", name));
-    $("colours").append(...this.blocks);
+    this.row = make("div", "mark");
+    $("colours").append(this.row, ...this.blocks);
+    this.marks = [];
+    this.loaded();
     for (const [id, name] of Object.entries(LANGUAGES)) $("language").append(new Option(name, id));
     $("text").addEventListener("input", () => this.change());
     $("text").addEventListener("keydown", (event) => this.press(event));
@@ -55,6 +89,11 @@ class EditorView {
     $("mistakes").addEventListener("click", ({ target }) => {
       if (target.dataset.at) this.goTo(Number(target.dataset.at));
     });
+    $("numbers").addEventListener("click", ({ clientY }) => {
+      const line = Math.floor((clientY - $("text").getBoundingClientRect().top - this.paddingAbove
+        + $("text").scrollTop) / this.lineHeight) + 1;
+      if (line >= 1 && line <= this.starts.length) this.onStop(line);
+    });
   }
 
   get language() {
@@ -65,25 +104,78 @@ class EditorView {
     return !$("editor").hidden;
   }
 
-  /** Whether the text is another than that of the program that is open. */
+  /** Whether the text is another than that of the program that is open, or is to be read otherwise, or
+   * for another memory. */
   get isChanged() {
-    const { text, language } = this.session;
-    return this.text !== text || this.language !== language;
+    const { text, language, machine: { kit, hasStack } } = this.session;
+    return this.text !== text || this.language !== language
+      || parseHex($("base").value.trim()) !== kit.base || Number($("size").value) !== kit.size
+      || $("stack").checked !== hasStack;
+  }
+
+  /** The number of the line in which the cursor is. */
+  get cursorLine() {
+    return linesIn($("text").value, 0, $("text").selectionStart) + 1;
+  }
+
+  get lineHeight() {
+    return parseFloat(getComputedStyle($("text")).lineHeight);
+  }
+
+  get paddingAbove() {
+    return parseFloat(getComputedStyle($("text")).paddingTop);
   }
 
   /** Takes up the program that was just opened. */
   fill() {
     const { text, language } = this.session;
-    if (this.text !== text) {
-      this.text = $("text").value = text;
-      $("text").setSelectionRange(0, 0);
-      $("text").scrollTop = $("text").scrollLeft = 0;
-    }
+    if (this.text !== text) this.putText(text);
+    this.loaded();
     $("language").value = language;
     this.isChosen = false;
     this.fillMemory();
-    setText($("mistake"), "");
+    this.forget();
     if (this.isOpen) this.changed();
+  }
+
+  /* Tells no mistake of the text that was there before. */
+  forget() {
+    setText($("mistake"), "");
+    $("mistakes").replaceChildren();
+  }
+
+  /* Has another text in the field, from its start on. */
+  putText(text) {
+    this.text = $("text").value = text;
+    $("text").setSelectionRange(0, 0);
+    $("text").scrollTop = $("text").scrollLeft = 0;
+  }
+
+  /** Has another text, which is not loaded. */
+  replace(text, language) {
+    this.putText(text);
+    $("language").value = language;
+    this.before = $("text").value;
+    this.origins = new Array(lineStartsOf(this.before).length).fill(0);
+    this.forget();
+    this.changed();
+  }
+
+  /** The text is that of the program that is open: each line stands where it stood. */
+  loaded() {
+    this.before = $("text").value;
+    this.origins = Array.from(lineStartsOf(this.before), (_, at) => at + 1);
+  }
+
+  /** The number that a line of the program that is open has in the text, or 0. */
+  lineNow = (line) => (line === 0 ? 0 : this.origins.indexOf(line) + 1);
+
+  /** Where the breakpoints stand in the text, as they are kept. */
+  get stopPlaces() {
+    const { stopPlaces, language } = this.session;
+    if (language !== this.language) return [];
+    return language === "assembly" ? stopPlaces.map(this.lineNow).filter((line) => line > 0)
+      : stopPlaces;
   }
 
   /** Takes up the memory of the program that is open. */
@@ -113,7 +205,10 @@ class EditorView {
 
   /* The text was changed by hand, or what it is read for. */
   change() {
-    this.text = $("text").value;
+    const { value } = $("text");
+    this.text = value;
+    this.origins = originsAfter(this.origins, this.before, value);
+    this.before = value;
     setText($("mistake"), "");
     this.changed();
     this.onChange();
@@ -231,6 +326,45 @@ class EditorView {
     this.showNumbers(this.starts.length);
     this.showColours();
     this.follow();
+    this.render();
+  }
+
+  /** Marks the line that is next, or at fault, and those with breakpoints. */
+  render() {
+    if (!this.isOpen) return;
+    const { session } = this;
+    const { machine, notice, mistake } = session;
+    const next = mistake ? 0 : this.lineNow(session.lineOf(machine.indexOf(machine.kit.pc)));
+    const kind = notice.isFault ? "fault" : "pc";
+    const stops = session.language === "assembly" ? this.stopPlaces : [];
+    const shown = [kind, next, ...stops].join();
+    if (shown === this.marksShown) return;
+    this.marksShown = shown;
+    this.row.className = `mark ${kind}`;
+    this.row.hidden = next === 0;
+    this.row.style.setProperty("--line", next - 1);
+    this.marks = stops.map((line) => this.makeMark("stop", line));
+    if (next > 0) this.marks.push(this.makeMark(kind, next));
+    for (const mark of $("numbers").querySelectorAll(".mark")) mark.remove();
+    $("numbers").append(...this.marks);
+    if (next > 0 && next !== this.nextShown && !session.isRunning) this.reveal(next);
+    this.nextShown = next;
+  }
+
+  makeMark(kind, line) {
+    const mark = make("i", `mark ${kind}`);
+    mark.style.setProperty("--line", line - 1);
+    return mark;
+  }
+
+  /* Scrolls as little as needed to have a line in view. */
+  reveal(line) {
+    const { lineHeight } = this;
+    const { scrollTop, clientHeight } = $("text");
+    const [top, bottom] = [(line - 2) * lineHeight, (line + 2) * lineHeight];
+    if (top >= scrollTop && bottom <= scrollTop + clientHeight) return;
+    $("text").scrollTop = Math.max(0, top < scrollTop ? top : bottom - clientHeight);
+    this.follow();
   }
 
   showNumbers(count) {
@@ -244,13 +378,13 @@ class EditorView {
       if (wrong.has(line)) parts.push(text, make("b", "", String(line)));
       text = wrong.has(line) ? "\n" : `${text}${line}\n`;
     }
-    $("numbers").replaceChildren(...parts, text);
+    $("numbers").replaceChildren(...parts, text, ...this.marks);
   }
 
   /* The first line that is in view, and the one below the last. */
   linesInView() {
     const { scrollTop, clientHeight } = $("text");
-    const height = parseFloat(getComputedStyle($("text")).lineHeight);
+    const { lineHeight: height } = this;
     return [Math.floor(scrollTop / height), Math.ceil((scrollTop + clientHeight) / height)];
   }
 
@@ -301,7 +435,8 @@ class EditorView {
 
   /* The places of mistakes in the text, from where each begins to the end of its word. */
   wrongIn(text, starts) {
-    return this.mistakes.filter(({ line }) => line <= starts.length).map(({ line, column }) => {
+    const isHere = ({ line }) => line > 0 && line <= starts.length;
+    return this.mistakes.filter(isHere).map(({ line, column }) => {
       const end = (starts[line] ?? text.length + 1) - 1;
       const from = Math.min(starts[line - 1] + column - 1, Math.max(starts[line - 1], end - 1));
       const [word] = /^[^\s,()]*/.exec(text.slice(from, end));
@@ -312,18 +447,22 @@ class EditorView {
   showMistakes() {
     const starts = lineStartsOf($("text").value);
     $("mistakes").replaceChildren(...this.mistakes.map(({ line, column, text }) => {
-      const button = make("button", "", `Line ${line}: ${text}`);
+      const button = make("button", "", line > 0 ? `Line ${line}: ${text}` : text);
       button.type = "button";
       button.dataset.at = (starts[line - 1] ?? 0) + column - 1;
       return makeRow("li", [button]);
     }));
+    if (this.mistakes.length < MOST_MISTAKES) return;
+    $("mistakes").append(make("li", "note", `There may be more: ${MOST_MISTAKES} are told at most.`));
   }
 
-  /** Goes to the first mistake of the text that was to be loaded. */
-  goToMistake() {
+  /** Goes to the first mistake of the text that was to be loaded, and says what is wrong where no line
+   * has a mistake: those of lines are listed. */
+  goToMistake(mistake) {
     this.read();
     const [first] = this.mistakes;
-    if (first) this.goTo((this.starts[first.line - 1] ?? 0) + first.column - 1);
+    setText($("mistake"), first ? "" : mistake);
+    if (first?.line > 0) this.goTo((this.starts[first.line - 1] ?? 0) + first.column - 1);
     else $("text").focus();
   }
 
@@ -331,9 +470,8 @@ class EditorView {
   goTo(at) {
     $("text").focus();
     $("text").setSelectionRange(at, at);
-    const line = $("text").value.slice(0, at).split("\n").length;
-    const height = parseFloat(getComputedStyle($("text")).lineHeight);
-    $("text").scrollTop = Math.max(0, (line - 4) * height);
+    const line = linesIn($("text").value, 0, at) + 1;
+    $("text").scrollTop = Math.max(0, (line - 4) * this.lineHeight);
   }
 
   /* Has the numbers and the colours stand where the text stands, beside its scroll bars, and

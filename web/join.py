@@ -21,21 +21,24 @@ def hash_of(text):
     return f"'sha256-{base64.b64encode(hashlib.sha256(text.encode()).digest()).decode()}'"
 
 
+def packed(data):
+    """Bytes, deflated, in base64."""
+    packer = zlib.compressobj(9, wbits=-15)
+    return base64.b64encode(packer.compress(data) + packer.flush()).decode()
+
+
 def image_text(image):
-    """The script that has an image: its name, and its bytes, deflated, in base64."""
+    """The script that has an image: its name, and its bytes."""
     if image is None:
         return "const IMAGE = null;"
-    packer = zlib.compressobj(9, wbits=-15)
-    packed = packer.compress(image.read_bytes()) + packer.flush()
-    data = base64.b64encode(packed).decode()
+    data = packed(image.read_bytes())
     return f'const IMAGE = {{ name: {json.dumps(image.name)}, data: "{data}" }};'
 
 
 def joined(folder, module, readme, image=None):
     """The page as one text."""
     styles, scripts = [], []
-    data = base64.b64encode(module).decode()
-    texts = {"module": f'const MODULE = "{data}";', "image": image_text(image)}
+    texts = {"module": f'const MODULE = "{packed(module)}";', "image": image_text(image)}
 
     def read(name):
         return (folder / name).read_text(encoding="utf-8")

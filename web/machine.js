@@ -3,7 +3,7 @@
 // The machine of the page: the proved steps of the kit, there and back, and around them what serves
 // the program's calls and the port, and what counts steps.
 
-const REGISTER = { RA: 1, SP: 2, S0: 8, A0: 10, A1: 11, A2: 12, A3: 13, A4: 14, A7: 17 };
+const REGISTER = { RA: 1, SP: 2, GP: 3, S0: 8, A0: 10, A1: 11, A2: 12, A3: 13, A4: 14, A7: 17 };
 
 /* The word of ret, by which a function returns. */
 const RETURN_WORD = 0x00008067;
@@ -23,6 +23,7 @@ const RUN_BYTES = 1 << 16;
 const KINDS = 1 << 10;
 function kindOf(word) {
   const opcode = word >>> 2 & 31;
+  if (isAtomic(word)) return opcode | word >>> 27 << 5;
   // a call, or mret or wfi, which two other bits tell apart
   if ((word & 0x707f) === 0x73) return opcode | (word >>> 28 & 3) << 8;
   return opcode | (word >>> 12 & 7) << 5 | (word >>> 30 & 1) << 8 | (word >>> 25 & 1) << 9;
@@ -37,6 +38,7 @@ function mostTransferred(address, count) {
 class Machine {
   constructor(kit) {
     this.kit = kit;
+    this.seed = 0;
     this.terminal = new Terminal();
     this.history = new Records(kit);
     this.convention = new Convention(this.history);
@@ -65,18 +67,28 @@ class Machine {
     const { kit } = this;
     kit.x.fill(0);
     if (this.hasStack) kit.x[REGISTER.SP] = kit.base + kit.size - this.aboveStack;
+    const isRars = isOfRars(kit);
+    if (isRars) kit.x[REGISTER.GP] = RARS_PLACES.gp;
     kit.pc = this.entry;
     kit.last = 0;
+    // the call of a case that it begins at
+    this.called = null;
     kit.words.fill(0);
     kit.words.set(this.program);
-    this.executed = new Float64Array(kit.words.length);
+    // what is cleared costs less than what is new
+    if (this.executed?.length === kit.words.length) this.executed.fill(0);
+    else this.executed = new Float64Array(kit.words.length);
     this.kinds = new Float64Array(KINDS);
     this.wordOfKind = new Uint32Array(KINDS);
     this.transferred = 0;
     // where more memory begins that a program asks for
-    this.heap = kit.base + 4 * this.program.length;
+    const end = kit.base + 4 * this.program.length;
+    this.heap = isRars ? Math.max(end, RARS_PLACES.heap) : end;
     this.break = this.heapRange().first;
     this.random = 0n;
+    // the states of RARS's generators of random numbers, and how long a run is to wait
+    this.streams = new Map();
+    this.asleep = 0;
     this.terminal.reset();
     this.traps.reset();
     this.history.clear();
@@ -138,8 +150,8 @@ class Machine {
     return pc % 4 === 0 && stops[(pc - base) >>> 2] > 0;
   }
 
-  /** Makes steps until one ends, `most` were made, the pc is a stop, or calls have transferred
-   * RUN_BYTES. `stops` has a number that is not 0 for each word to stop at; the first step is made
+  /** Makes steps until one ends, `most` were made, the pc is a stop, calls have transferred
+   * RUN_BYTES, or one waits. `stops` has a number that is not 0 for each word to stop at; the first step is made
    * wherever the pc is. */
   run(most, stops) {
     this.convention.follow();
@@ -152,7 +164,9 @@ class Machine {
     const { kit, terminal } = this;
     const printed = terminal.printed + terminal.lost;
     this.transferred = 0;
-    for (let made = 0; made < most && this.transferred < RUN_BYTES; made++) {
+    this.asleep = 0;
+    const isOn = () => this.transferred < RUN_BYTES && this.asleep === 0;
+    for (let made = 0; made < most && isOn(); made++) {
       const end = this.step();
       if (end !== null) return end;
       if (this.isAtStop(stops)) return { reason: "stop", address: kit.pc };
@@ -178,9 +192,11 @@ class Machine {
   serve(word) {
     const fault = this.kit.readFault();
     if (fault.kind === FAULT.ECALL) return this.serveCall(fault, word);
+    if (fault.kind === FAULT.ILLEGAL && isCounterRead(word)) return serveCounter(this, word);
     const isAccess = fault.kind === FAULT.LOAD || fault.kind === FAULT.STORE;
     if (isAccess && fault.address === PORT_ADDRESS) return this.servePort(fault, word);
-    return { reason: "fault", ...fault };
+    const keys = isAccess && this.environment.hasKeys ? serveKeys(this, fault, word) : undefined;
+    return keys === null ? null : { reason: "fault", ...fault };
   }
 
   /* The port takes and gives one byte. */
@@ -202,12 +218,12 @@ class Machine {
 
   /* A call of the environment. */
   serveCall(fault, word) {
-    const { kit, terminal, environment, heap, break: breakBefore, random } = this;
+    const { kit, terminal, environment, heap, break: breakBefore, random, streams } = this;
     const call = environment.calls[kit.x[environment.number]];
     if (call === undefined) return { reason: "fault", ...fault };
     const extra = {
       madeBy: MADE_BY.CALL, access: NO_ACCESS, name: call.name, mark: terminal.mark(), heap,
-      breakBefore, random, changes: [],
+      breakBefore, random, streams, changes: [],
     };
     const answer = call.serve(this, extra);
     if (answer === null) return { reason: "waiting" };
@@ -346,11 +362,12 @@ class Machine {
   }
 
   /* Takes back what a system call or the port did beside registers and memory. */
-  restore({ mark, heap, breakBefore, random }) {
+  restore({ mark, heap, breakBefore, random, streams }) {
     this.terminal.restore(mark);
     this.heap = heap ?? this.heap;
     this.break = breakBefore ?? this.break;
     this.random = random ?? this.random;
+    this.streams = streams ?? this.streams;
   }
 
   /** Takes `most` steps back, or as many as are kept, and stops where the pc is a stop. Returns

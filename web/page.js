@@ -2,6 +2,10 @@
 
 // The page: its buttons, keys, files and links, and how it starts.
 
+/** The title of a lesson that is kept, as the menu has it. */
+const titleOfKept = ({ title, handedIn }) =>
+  `Lesson: ${title}${handedIn === undefined ? "" : ", as it was handed in"}`;
+
 const UNREADABLE = "can't be read: it is a folder, or it was changed after it was chosen.";
 
 /** The bytes of a file, or null where the browser can't read it. */
@@ -24,37 +28,44 @@ class Page {
     this.lesson = new LessonView(session);
     this.tabs = new TabsView(() => this.render());
     this.board = new BoardView(new Board(session.machine.kit.module));
-    this.work = new Work(this, new Keeping(() => localStorage));
+    this.work = new Work(this, new Keeping(() => localStorage, () => sessionStorage));
     this.views = [
       this.listing, this.registers, this.memory, new ConsoleView(session), new FramesView(session),
-      new LogView(session), new CountsView(session),
+      new LogView(session), new CountsView(session), new BitmapView(session), this.editor,
     ];
+    this.grades = new GradesView();
     this.wasWaiting = false;
     this.handlers = this.makeHandlers();
     this.fillMenus();
     this.listen();
     session.onChange = () => this.render();
     session.onEnd = () => this.checkLesson();
+    session.onStops = () => this.work.changeStops();
+    this.listing.onRunTo = () => this.act("runToLine");
     this.editor.onChange = () => {
+      this.mayLeaveText = false;
       this.work.change();
       this.renderChanged();
     };
+    this.editor.onStop = (line) => this.toggleStopsOf(line);
   }
 
   makeHandlers() {
     const { session } = this;
+    // what one sees is what runs
+    const fresh = (go) => () => { if (this.freshen()) go(); };
     return {
-      step: () => session.step(),
+      step: fresh(() => session.step()),
       stepBack: () => session.stepBack(),
-      stepOver: () => session.stepOver(),
-      stepOut: () => session.stepOut(),
-      runToOutput: () => session.runToOutput(),
-      run: () => session.run(),
+      stepOver: fresh(() => session.stepOver()),
+      stepOut: fresh(() => session.stepOut()),
+      runToOutput: fresh(() => session.runToOutput()),
+      run: fresh(() => session.run()),
       pause: () => session.pause(),
       runBack: () => session.runBack(),
-      runToLine: () => session.runToLine(),
+      runToLine: fresh(() => this.runToLine()),
       reset: () => session.reset(),
-      breakpoint: () => session.toggleBreakpoint(session.selected),
+      breakpoint: () => this.toggleBreakpoint(),
       program: () => this.showListing(),
       slower: () => this.setSpeed(session.speed - 1),
       faster: () => this.setSpeed(session.speed + 1),
@@ -73,6 +84,8 @@ class Page {
       examples: () => $("examples").focus(),
       preset: () => this.goToMore("preset"),
       edit: () => this.showEditor(),
+      create: () => this.create(),
+      kept: () => this.showKept(),
       open: () => $("file").click(),
       save: () => this.work.save(),
       link: () => this.showLink(),
@@ -143,16 +156,20 @@ class Page {
     [group.id, group.label] = ["own", "Kept on this computer"];
     const { keeping } = this.work;
     for (const { id, name } of keeping.all("programs")) {
-      group.append(new Option(shortened(String(name), LABEL_SHOWN), `program ${id}`));
+      group.append(new Option(shortened(name, LABEL_SHOWN), `program ${id}`));
     }
-    keeping.all("lessons").forEach(({ title }, at) =>
-      group.append(new Option(shortened(`Lesson: ${title}`, LABEL_SHOWN), `lesson ${at}`)));
+    for (const lesson of keeping.all("lessons")) {
+      group.append(new Option(shortened(titleOfKept(lesson), LABEL_SHOWN), `lesson ${lesson.id}`));
+    }
     if (group.children.length > 0) $("examples").append(group);
+    if ($("keeping").open) this.showKept();
   }
 
-  /** Has the menu of examples say that the program is one's own, and no link lead to it. */
-  nameOwn() {
-    $("examples").value = "";
+  /** Has the menu of examples say that the program is one's own, under a name, and no link lead to it. */
+  nameOwn(name) {
+    this.session.name = name;
+    setText($("program-title"), name);
+    this.example = $("examples").value = "";
     if (!location.hash.includes("program=")) return;
     history.replaceState(null, "", location.pathname + location.search);
   }
@@ -227,6 +244,11 @@ class Page {
     this.listenToImages();
     $("first-lesson").addEventListener("click", () => saveFile(FIRST_LESSON, "lesson.txt"));
     $("choose-calls").addEventListener("click", () => this.chooseCalls());
+    $("export").addEventListener("click", () => this.work.exportAll());
+    $("import").addEventListener("click", () => {
+      $("keeping").close();
+      $("file").click();
+    });
     $("clear").addEventListener("click", () => $("clearing").showModal());
     $("clear-all").addEventListener("click", () => {
       this.work.clear();
@@ -237,10 +259,7 @@ class Page {
       if (target.hash === location.hash) this.openLink();
     });
     $("copy").addEventListener("click", () => this.copyLink());
-    $("save-tries").addEventListener("click", () => {
-      this.work.handIn();
-      $("shared").close();
-    });
+    this.listenToClass();
     $("changing").addEventListener("submit", (event) => {
       event.preventDefault();
       this.change();
@@ -256,6 +275,21 @@ class Page {
     window.addEventListener("resize", () => this.render());
     window.addEventListener("hashchange", () => this.openLink());
     this.listenToDrops();
+  }
+
+  /* What a class has: cases to begin at, a name to hand in by, and a table of grades. */
+  listenToClass() {
+    $("exercise-cases").addEventListener("click", ({ target }) => {
+      if (target.dataset.case) this.startCase(Number(target.dataset.case));
+    });
+    $("student").addEventListener("input", () => this.showHandedIn());
+    $("save-tries").addEventListener("click", () => this.saveHandedIn());
+    $("sharing").addEventListener("submit", (event) => {
+      event.preventDefault();
+      this.saveHandedIn();
+    });
+    $("class-copy").addEventListener("click", () => this.saveClassCopy());
+    $("save-grades").addEventListener("click", () => saveFile(this.grades.text, this.grades.name));
   }
 
   /* The buttons that boot an image: a file, or the one that was built into the page. */
@@ -284,7 +318,7 @@ class Page {
   listenToEditor() {
     $("editor").addEventListener("submit", (event) => {
       event.preventDefault();
-      this.take();
+      if (this.take()) this.showListing();
     });
     $("run-text").addEventListener("click", () => this.takeAndRun());
     $("to-listing").addEventListener("click", () => this.showListing());
@@ -451,10 +485,11 @@ class Page {
     this.work.keep();
     const mistake = this.load(program, example);
     if (mistake) return mistake;
+    this.example = example;
     this.editor.fill();
     this.work.begin({ example, own });
     this.renderChanged();
-    if (this.session.mistake) this.editor.open();
+    if (this.session.mistake || this.lesson.exercise) this.editor.open();
     else if (this.editor.isOpen) this.editor.close();
     return "";
   }
@@ -488,61 +523,82 @@ class Page {
 
   /* Opens the program again in another memory. */
   takePreset(choice) {
-    const { name, about, text, language, calls, input, memory, isDraft, machine } = this.session;
-    const { kit: { base } } = machine;
-    const { size, hasStack } = PRESETS[choice];
-    const program =
-      { name, about, text, language, base, size, hasStack, calls, input, memory,
-        code: machine.code, keepsStops: true, isDraft };
-    const mistake = this.load(program, $("examples").value);
+    const { name, program } = this.session;
+    // another memory than that of RARS stays where it is
+    const base = program.base === RARS_MEMORY.base ? 0 : program.base;
+    const { size, hasStack, base: own = base } = PRESETS[choice];
+    const mistake = this.load({ ...program, base: own, size, hasStack }, $("examples").value);
     if (mistake) this.refuse(`${name} was not opened. ${mistake}`);
     else this.editor.fillMemory();
   }
 
   /* Which of the presets the machine is, or "". */
   presetNow() {
-    const { kit: { size }, hasStack } = this.session.machine;
-    const at = PRESETS.findIndex((preset) => preset.size === size && preset.hasStack === hasStack);
+    const { kit: { base, size }, hasStack } = this.session.machine;
+    const isRars = base === RARS_MEMORY.base;
+    const at = PRESETS.findIndex((preset) => preset.size === size && preset.hasStack === hasStack
+      && (preset.base === RARS_MEMORY.base) === isRars);
     return at < 0 ? "" : String(at);
   }
 
-  openExample(id) {
+  openExample(id, stops = []) {
     this.closeLesson();
-    this.open(EXAMPLES.find((example) => example.id === id), { example: id });
+    const example = EXAMPLES.find((each) => each.id === id);
+    this.open({ ...example, stops }, { example: id });
+  }
+
+  /* Opens a program with nothing in it, which is kept beside the others, to be written. */
+  create() {
+    this.work.keep();
+    this.closeLesson();
+    const name = this.work.keeping.freeName(`${NEW_NAME} 1`);
+    const { machine: { kit: { base, size }, hasStack }, calls } = this.session;
+    this.open({ name, text: "", language: "assembly", base, size, hasStack, calls, isDraft: true });
+    this.showEditor();
   }
 
   /* Opens what was chosen in the menu of examples. */
   openChoice(value) {
+    // a letter that is typed may choose what is hidden
+    if (value === "") return this.showExample();
     const [kind, which] = value.split(" ");
     if (kind === "program") this.openKept(which);
-    else if (kind === "lesson") this.openKeptLesson(Number(which), 1);
+    else if (kind === "lesson") this.openKeptLesson(which, 1);
     else this.openExample(value);
+    return undefined;
+  }
+
+  /* Has the menu of examples say what is open. */
+  showExample() {
+    $("examples").value = this.example;
   }
 
   /** Opens a program that was kept. Answers whether it is there. */
   openKept(id) {
     this.work.keep();
-    const program = this.work.keeping.all("programs").find((entry) => entry.id === id);
+    const program = this.work.keeping.get("programs", id);
     if (!program) return false;
     this.closeLesson();
-    const { name, text, language, base, size, hasStack, calls } = program;
-    this.open({ name, text, language, base, size, hasStack, calls, isDraft: true }, { own: id });
+    const { name, text, language, base, size, hasStack, calls, stops = [] } = program;
+    this.open(
+      { name, text, language, base, size, hasStack, calls, stops, isDraft: true }, { own: id });
     return true;
   }
 
-  /** Opens a lesson that was kept, the latest of which is 0. Answers whether it is there. */
-  async openKeptLesson(at, number) {
+  /** Opens a lesson that was kept. Answers whether it is there. */
+  async openKeptLesson(id, number) {
     this.work.keep();
-    const kept = this.work.keeping.all("lessons")[at];
+    const kept = this.work.keeping.get("lessons", id);
     if (!kept) return false;
     try {
       const lesson = parseLesson(kept.text);
+      if (kept.handedIn !== undefined) giveHandedIn(lesson, kept.handedIn);
       await this.openLesson(lesson, Math.min(number, lesson.exercises.length));
     } catch (error) {
       if (!(error instanceof ProgramError)) throw error;
       // an earlier page may have kept what this one refuses, and at the start no program is open
       if (this.session.text !== undefined) {
-        this.refuse(`${kept.title} was not opened. ${error.message}`);
+        this.refuse(`${titleOfKept(kept)} was not opened. ${error.message}`);
       }
       return false;
     }
@@ -552,6 +608,11 @@ class Page {
   async openFiles(files) {
     const [file] = files;
     if (!file) return;
+    if (files.length > 1) {
+      await this.gradeFiles([...files]);
+      $("file").value = "";
+      return;
+    }
     const mistake = mistakeOfSize(file.size);
     const bytes = mistake ? null : await contentOf(file);
     if (bytes === null) this.refuse(`${file.name} ${mistake || UNREADABLE}`);
@@ -571,6 +632,8 @@ class Page {
         return this.open({ name, ...program });
       }
       const text = textOfFile(bytes, size, kit);
+      if (text.startsWith(EXPORT_START)) return this.importAll(name, text);
+      if (text.startsWith(HANDED_IN)) return await this.openHandedIn(text);
       if (isLesson(text)) return await this.openLesson(parseLesson(text), 1);
       refuseHeading(text);
       this.closeLesson();
@@ -582,40 +645,89 @@ class Page {
     }
   }
 
-  /* Loads what stands in the editor, or says there what is wrong with it. Answers whether it is
-   * loaded. */
+  /* Loads what stands in the editor, or says there what is wrong with it, and has nothing run. Answers
+   * whether it is loaded. */
   take() {
-    this.editor.settleLanguage();
-    const program = {
-      name: this.session.name,
-      text: this.editor.text,
-      language: this.editor.language,
-      base: parseHex($("base").value.trim()),
-      size: Number($("size").value),
-      hasStack: $("stack").checked,
-      calls: this.session.calls,
-      input: this.session.input,
-      memory: this.session.memory,
-      code: this.editor.isChanged ? null : this.session.machine.code,
-      keepsStops: true,
-    };
-    const mistake = this.load(program, $("examples").value);
-    if (mistake) this.editor.goToMistake();
-    else this.showListing();
-    if (!mistake) this.editor.fillMemory();
-    setText($("mistake"), mistake);
+    const { session, editor } = this;
+    editor.settleLanguage();
+    const mistake = this.load(this.programTyped(), $("examples").value);
+    if (mistake) {
+      editor.open();
+      editor.goToMistake(mistake);
+      session.stop();
+      session.say("Not run", "What is wrong with the text stands below it.", "end");
+    } else {
+      editor.loaded();
+      editor.fillMemory();
+      setText($("mistake"), "");
+      this.render();
+    }
     if (this.lesson.exercise) this.lesson.begin(mistake);
     return !mistake;
   }
 
+  /* The program that stands in the editor. */
+  programTyped() {
+    const { session, editor } = this;
+    return {
+      ...session.program,
+      text: editor.text,
+      language: editor.language,
+      base: parseHex($("base").value.trim()),
+      size: Number($("size").value),
+      hasStack: $("stack").checked,
+      about: "",
+      code: editor.isChanged ? null : session.machine.code,
+      isDraft: false,
+      lineNow: editor.lineNow,
+    };
+  }
+
+  /* Loads what stands in the editor where it was changed. Answers whether it is what runs. */
+  freshen() {
+    return !this.editor.isChanged || this.take();
+  }
+
   takeAndRun() {
-    if (this.take()) this.session.run();
+    if (!this.take()) return;
+    // until one types on
+    this.mayLeaveText = true;
+    this.session.run();
+  }
+
+  /* Runs to the line that is selected, or in the editor to that of the cursor. */
+  runToLine() {
+    const { session, editor } = this;
+    const line = editor.isOpen ? session.lineWithCode(editor.cursorLine) : undefined;
+    if (line !== undefined) session.selected = session.starts.get(line)[0];
+    session.runToLine();
+  }
+
+  /* ---- breakpoints */
+
+  /* Sets a breakpoint at the line that is selected, or in the editor at that of the cursor, or takes
+   * it away. */
+  toggleBreakpoint() {
+    const { session, editor } = this;
+    if (editor.isOpen && session.sources.size > 0) this.toggleStopsOf(editor.cursorLine);
+    else session.toggleBreakpoint(session.selected);
+  }
+
+  /* Sets a breakpoint at a line of the text, or at the next instruction below it. A text in which that
+   * is not known is loaded first. */
+  toggleStopsOf(line) {
+    const { session, editor } = this;
+    const before = editor.origins[line - 1];
+    if (session.starts.has(before)) return session.toggleStopsOf(before);
+    if (!this.freshen()) return undefined;
+    const there = session.lineWithCode(line);
+    return there === undefined ? undefined : session.toggleStopsOf(there);
   }
 
   async showLink() {
-    const { machine, text, language, calls } = this.session;
-    const { kit: { base, size }, hasStack } = machine;
-    const hash = await encodeLink({ text, language, base, size, hasStack, calls });
+    const { program } = this.session;
+    const before = program.given === "" ? "" : `${program.given}.text\n`;
+    const hash = await encodeLink({ ...program, text: before + program.text });
     this.share("A link to this program", "", hash);
     $("link").select();
   }
@@ -624,25 +736,48 @@ class Page {
   async showHandedIn() {
     const { lesson } = this.lesson;
     if (lesson === null) return;
+    this.work.keep();
     this.work.keepLesson();
+    const isOpen = $("shared").open;
+    if (!isOpen) $("student").value = this.work.keeping.read("name") ?? "";
+    const name = nameIn($("student").value);
+    this.work.keeping.write("name", name);
     const count = lesson.exercises.flatMap(({ tries = [] }) => tries).length;
     const tries = count === 1 ? "The 1 try" : `The ${numbered(count)} tries`;
-    const what = `${tries} of this lesson, as a file, or as a link that holds the lesson too. `;
-    this.share("Hand in", what, await encodeHandedIn(lesson));
-    $("save-tries").focus();
+    const best = lesson.exercises.map(({ tries: all = [] }, at) => [at + 1, triesTold(all)])
+      .filter(([, told]) => told).map(([number, told]) => `Exercise ${number}: ${told}.`);
+    const what = `${tries} of this lesson, as a file, or as a link that holds the lesson too. `
+      + `${best.join(" ")} `;
+    const hash = await encodeHandedIn(lesson, name);
+    // a letter may have been typed meanwhile
+    if (name !== nameIn($("student").value)) return;
+    this.share("Hand in", what, hash);
+    if (!isOpen) $(name === "" ? "student" : "save-tries").focus();
+  }
+
+  /* Saves what was tried as a file, by the name that was given. */
+  saveHandedIn() {
+    const name = nameIn($("student").value);
+    if (name === "") {
+      setText($("shared-note"), "Write your name first: your teacher sees it.");
+      $("student").focus();
+      return;
+    }
+    this.work.handIn(name);
+    $("shared").close();
   }
 
   /* Shows a link. What was tried of a lesson can be saved too. */
   share(title, what, hash) {
     const link = location.href.replace(/#.*$/, "") + hash;
     setText($("shared-title"), title);
-    $("save-tries").hidden = what === "";
+    $("save-tries").hidden = $("by").hidden = what === "";
     $("link").value = link;
     const isLong = link.length > 8000 ? " Some programs that send mail cut such a long one." : "";
     const isFile = location.protocol === "file:"
       ? " It leads to a file of this computer: put the page on a server to send it." : "";
     setText($("shared-note"), `${what}${counted(link.length, "character")}.${isLong}${isFile}`);
-    $("shared").showModal();
+    if (!$("shared").open) $("shared").showModal();
   }
 
   /* Puts the link on the clipboard, or says that the browser did not let the page. */
@@ -675,6 +810,70 @@ class Page {
     return true;
   }
 
+  /* ---- what is kept on this computer */
+
+  /* Shows what is kept, to be renamed, taken away, written to a file or read from one. */
+  showKept() {
+    this.work.keep();
+    const { keeping } = this.work;
+    const programs = keeping.all("programs").map((entry) => this.keptRow("programs", entry));
+    const lessons = keeping.all("lessons").map((entry) => this.keptRow("lessons", entry));
+    const count = `${counted(programs.length, "program")} and ${counted(lessons.length, "lesson")}.`;
+    const { isFull, lacking } = this.work;
+    const why = `There is no room to keep ${lacking}. Export all, and delete what may go. `;
+    setText($("keeping-note"), (isFull ? why : "") + count);
+    $("keeping-list").tBodies[0].replaceChildren(...programs, ...lessons);
+    if (!$("keeping").open) $("keeping").showModal();
+  }
+
+  /* A row of what is kept: its name, how long it is, and a button that takes it away. */
+  keptRow(kind, entry) {
+    const { id, text } = entry;
+    const name = kind === "programs" ? entry.name : titleOfKept(entry);
+    const head = make("th");
+    head.scope = "row";
+    head.append(kind === "programs" ? this.nameField(entry) : make("span", "", name));
+    const button = make("button", "", "Delete");
+    button.type = "button";
+    button.setAttribute("aria-label", `Delete ${name}`);
+    button.addEventListener("click", () => {
+      // what is gone can't be had back: the second click is meant
+      if (button.textContent === "Delete") button.textContent = "Delete for good";
+      else this.work.remove(kind, id);
+    });
+    const remove = make("td");
+    remove.append(button);
+    return makeRow("tr", [head, make("td", "note", counted(text.length, "character")), remove]);
+  }
+
+  /* A field with the name of a program that is kept, by which it is renamed. */
+  nameField({ id, name }) {
+    const field = make("input");
+    Object.assign(field, { type: "text", value: name, spellcheck: false, autocomplete: "off" });
+    field.setAttribute("aria-label", `Name of ${name}`);
+    field.addEventListener("change", () => this.work.rename(id, field.value.trim()));
+    return field;
+  }
+
+  /** Asks what is to go, where there is no room for something: by name. */
+  askForRoom() {
+    if (document.querySelector("dialog[open]") === null) this.showKept();
+  }
+
+  /* Keeps what a file has that was exported, beside what is kept. */
+  importAll(name, text) {
+    this.work.keep();
+    const count = this.work.keeping.imported(text);
+    if (count === null) throw new ProgramError(0, "It is no file of all that is kept, or is damaged.");
+    this.fillOwn();
+    const { programs, lessons, lost } = count;
+    const said = `${counted(programs, "program")} and ${counted(lessons, "lesson")} of ${name} are kept.`;
+    this.session.pause();
+    if (lost === 0) return this.session.say("Imported", said, "done");
+    return this.session.say("Imported in part", `${said} There was no room for ${numbered(lost)} more.`,
+      "end");
+  }
+
   /* ---- lessons */
 
   /* Opens a lesson at an exercise. Of one that is open already what was tried stays. */
@@ -684,29 +883,110 @@ class Page {
     const open = this.lesson.lesson;
     const isSame = open?.text === lesson.text && open.handedIn === lesson.handedIn;
     const own = isSame ? this.lesson.lesson : lesson;
-    if (!isSame && own.handedIn === undefined) this.work.recall(own);
-    own.link ??= await encodeLesson(own.text);
+    if (!isSame) this.work.recall(own);
+    own.link ??= own.handedIn === undefined ? await encodeLesson(own.text)
+      : await encodedHandedIn(own, own.handedIn);
     this.lesson.open(own, number, own.link);
-    const { title, language, calls, size, hasStack, program, tried, cases } = this.lesson.exercise;
-    const [{ input, memory }] = cases;
+    const { title, language, calls, base, size, hasStack, program, tried, cases, given, seed } =
+      this.lesson.exercise;
+    const [{ input, memory, made: [call = null] }] = cases;
     const name = title || "Exercise";
     // what a student has to begin with may be empty, or have mistakes to find
     const isDraft = true;
     this.open(
-      { name, text: program, language, calls, input, memory, size, hasStack, isDraft, ...tried });
-    this.work.keepLesson();
+      { name, text: program, language, calls, input, memory, call, base, size, hasStack, isDraft,
+        given, seed, ...tried });
+    // what others handed in is kept when something is tried of it
+    if (own.handedIn === undefined) this.work.keepLesson();
+  }
+
+  /* Opens a text that was handed in, over its lesson, which is open or kept. */
+  async openHandedIn(text) {
+    const { title } = headOf(text);
+    const { lesson: { lesson }, work: { keeping } } = this;
+    const all = lesson === null ? [] : [lesson];
+    const of = [...all, ...keeping.all("lessons")].find((each) => each.title === title);
+    if (of === undefined) {
+      throw new ProgramError(0, `It was handed in of the lesson "${title}": open this lesson first.`);
+    }
+    const opened = parseLesson(of.text);
+    giveHandedIn(opened, text);
+    await this.openLesson(opened, 1);
   }
 
   /* Judges the program that is open by the cases of the exercise. */
   async checkLesson() {
     if (!this.lesson.exercise) return;
     await this.lesson.check();
+    this.work.keep();
     this.work.keepLesson();
   }
 
   /* Judges the text in the editor. */
   check() {
     if (this.lesson.exercise && this.take()) this.checkLesson();
+  }
+
+  /* Has the program of the exercise at the start of a case, the call that missed something first. */
+  startCase(at) {
+    const { exercise } = this.lesson;
+    const { title, input, memory, made, isHidden } = exercise.cases[at];
+    if (isHidden) return;
+    const call = exercise.told[at].call ?? made[0] ?? null;
+    this.load({ ...this.session.program, input, memory, call }, $("examples").value);
+    this.showListing();
+    const given = givenIn({ input, memory }, call);
+    this.session.say("Ready", `At the start of ${title || `case ${at + 1}`}. ${given}`.trim());
+  }
+
+  /* Saves the lesson that is open without its hidden cases. */
+  saveClassCopy() {
+    const { lesson } = this.lesson;
+    $("help").close();
+    try {
+      if (lesson === null) throw new ProgramError(0, "No lesson is open.");
+      saveFile(withoutHidden(lesson.text), fileNameOf(lesson.title, "assembly").replace(/s$/, "txt"));
+    } catch (error) {
+      if (!(error instanceof ProgramError)) throw error;
+      this.refuse(error.message);
+    }
+  }
+
+  /* Grades what several have handed in, by the lesson that is among the files, or is open. */
+  async gradeFiles(files) {
+    const given = await Promise.all(files.map(async (file) => {
+      const bytes = file.size > MOST_TEXT ? null : await contentOf(file);
+      return { file: file.name, text: bytes && textIn(bytes) };
+    }));
+    const isOfClass = ({ text }) => text !== null && !isLesson(text);
+    const own = given.find(({ text }) => text !== null && isLesson(text));
+    try {
+      const lesson = own ? parseLesson(own.text) : this.lesson.lesson;
+      if (lesson === null) {
+        throw new ProgramError(0, "Several files are graded by a lesson: open it first, or drop it "
+          + "with them.");
+      }
+      refuseMemory(lesson, this.session);
+      await this.gradeAll(lesson, given.filter(isOfClass),
+        given.filter(({ text }) => text === null).map(({ file }) => `${file} is no text.`));
+    } catch (error) {
+      if (!(error instanceof ProgramError)) throw error;
+      this.refuse(error.message);
+    }
+  }
+
+  async gradeAll(lesson, given, unread) {
+    const exercises = lesson.exercises.map((exercise, at) => [exercise, at + 1]);
+    const { judging } = this.lesson;
+    const rows = [];
+    for (const each of given) {
+      rows.push(await gradeOne(judging, lesson, exercises, each));
+      this.session.say("Grading", `${rows.length} of ${given.length}.`, "run");
+      await new Promise((done) => setTimeout(done));
+    }
+    finishRows(rows, exercises, this.session.machine.kit);
+    this.session.say("Graded", `${counted(rows.length, "file")}.`, "done");
+    this.grades.show(lesson, exercises, rows, unread);
   }
 
   closeLesson() {
@@ -721,12 +1001,13 @@ class Page {
   /** Opens what the page's link has, or what was open when the page was left, or else the first
    * example. */
   async start() {
-    const latest = this.work.keeping.read("latest") ?? {};
+    const { program, lesson, number, example, stops } = this.work.keeping.latestOpen;
     const hasLink = location.hash.length > 1;
-    const isOpen = !hasLink && (latest.program !== undefined && this.openKept(latest.program)
-      || latest.lesson > 0 && await this.openKeptLesson(0, latest.lesson));
-    const { id } = EXAMPLES.find((example) => example.id === latest.example) ?? EXAMPLES[0];
-    if (!isOpen) this.openExample(hasLink ? EXAMPLES[0].id : id);
+    const isOpen = !hasLink && (program !== undefined && this.openKept(program)
+      || lesson !== undefined && await this.openKeptLesson(lesson, number));
+    const { id } = EXAMPLES.find((each) => each.id === example) ?? EXAMPLES[0];
+    if (!isOpen && !hasLink) this.openExample(id, id === example ? stops : []);
+    else if (!isOpen) this.openExample(EXAMPLES[0].id);
     await this.openLink();
     const { notice: { heading, kind }, sentence } = this.session;
     if (this.work.keeping.isLasting) return;
@@ -742,7 +1023,8 @@ class Page {
   renderOffer() {
     const { calls } = this.session.notice;
     $("choose-calls").hidden = calls === null;
-    if (calls !== null) setText($("choose-calls"), `Choose ${ENVIRONMENTS[calls].name}'s calls`);
+    const { name, hasTraps } = ENVIRONMENTS[calls] ?? {};
+    if (calls !== null) setText($("choose-calls"), `Choose ${hasTraps ? name : `${name}'s calls`}`);
   }
 
   chooseCalls() {
@@ -757,7 +1039,7 @@ class Page {
     if (session.isWaiting === this.wasWaiting) return;
     if (session.isWaiting) {
       const at = document.activeElement;
-      if (at === $("text") || at === $("input")) return;
+      if (at === $("text") && !this.mayLeaveText || at === $("input")) return;
       this.wasWaiting = true;
       this.focusBefore = at;
       $("input").focus();
@@ -819,7 +1101,7 @@ async function startPage() {
       + "Chromium, Firefox and Safari of 2024 and later have it.");
     return;
   }
-  const kit = await Kit.load(Uint8Array.from(atob(MODULE), (letter) => letter.charCodeAt(0)));
+  const kit = await Kit.load(await inflated(MODULE, Infinity));
   const page = new Page(new Session(new Machine(kit)));
   globalThis.rrs = page;
   for (const id of PARTS) $(id).hidden = false;

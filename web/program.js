@@ -15,7 +15,8 @@ class ProgramError extends Error {
 /* What a text can be. */
 const LANGUAGES = { assembly: "assembly", words: "words of hexadecimal digits" };
 
-const numbered = (count) => count.toLocaleString("en");
+const IN_ENGLISH = new Intl.NumberFormat("en");
+const numbered = (count) => IN_ENGLISH.format(count);
 
 /* The most bytes of a text of words, in a file, a link or the editor. */
 const MOST_TEXT = 1 << 23;
@@ -157,9 +158,9 @@ function refuseLarger(bytes, size) {
 /** Reads a source of assembly for `size` bytes of memory from `base` on, or throws a ProgramError.
  * Beside what `parseProgram` answers: of each word at which a statement begins its line and text,
  * and where the program starts, in bytes from `base` on. */
-function parseAssembly(text, base, size, kit, mostRoom) {
+function parseAssembly(text, base, size, kit, mostRoom, given) {
   if (isTooLong(text)) throw new ProgramError(0, TOO_LONG);
-  const made = assemble(text, base, kit, mostRoom);
+  const made = assemble(text, base, kit, mostRoom, given, isOfRars({ base, size }));
   if (made === null) throw new ProgramError(0, NO_ROOM);
   if (made.mistakes.length > 0) {
     const [{ line, text: what }] = made.mistakes;
@@ -220,9 +221,9 @@ function codeOf(statements, base, count) {
   return code;
 }
 
-/** Reads a program in one of LANGUAGES, or throws a ProgramError. */
-function readProgram(text, language, base, size, kit, mostRoom) {
-  return language === "assembly" ? parseAssembly(text, base, size, kit, mostRoom)
+/** Reads a program in one of LANGUAGES, behind what is given of it, or throws a ProgramError. */
+function readProgram(text, language, base, size, kit, mostRoom, given = "") {
+  return language === "assembly" ? parseAssembly(text, base, size, kit, mostRoom, given)
     : parseProgram(text, size);
 }
 

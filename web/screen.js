@@ -15,6 +15,10 @@ const BOARD_CSRS = [
   "mstatus", "mtvec", "mie", "mepc", "mcause", "mtval", "mscratch", "mcounteren",
 ];
 
+/* How many rows of RAM are shown of a board, and of how many words. */
+const BOARD_ROWS = 6;
+const BOARD_COLUMNS = 4;
+
 /** What a key types into a terminal, or "" where it is a key of the browser. */
 function typedBy({ key, ctrlKey, altKey, metaKey }) {
   if (altKey || metaKey) return "";
@@ -88,6 +92,8 @@ class BoardView {
       $("terminal").focus();
     });
     $("board-close").addEventListener("click", () => this.close());
+    $("board-stops").addEventListener("change", () => this.takeStops());
+    $("board-address").addEventListener("change", () => this.renderMemory());
     $("terminal").addEventListener("keydown", (event) => this.press(event));
     $("terminal").addEventListener("scroll", ({ target }) => {
       this.follows = target.scrollTop + target.clientHeight >= target.scrollHeight - 4;
@@ -130,6 +136,40 @@ class BoardView {
     this.renderTerminal();
     this.renderState();
     this.renderHart();
+    this.renderMemory();
+  }
+
+  /* Takes the breakpoints from their field: addresses. None is changed where one is no address. */
+  takeStops() {
+    const all = $("board-stops").value.split(/[\s,]+/).filter((word) => word).map(parseHex);
+    const areSound = all.every((address) => address % 4 === 0);
+    $("board-stops").setAttribute("aria-invalid", !areSound);
+    $("board-stops").title = areSound ? "" : "Addresses are wanted, which are multiples of 4, as 0x80000010.";
+    if (areSound) this.board.stops = new Set(all);
+  }
+
+  /* Shows RAM from an address on that the field has, or a register. */
+  renderMemory() {
+    const { kit } = this.board;
+    if (kit === undefined) return;
+    const said = $("board-address").value.trim().toLowerCase();
+    const register = registerNamed(said);
+    const wanted = said === "pc" ? kit.pc : register === undefined ? parseHex(said) : kit.x[register];
+    const last = RAM_BYTES / 4 - BOARD_ROWS * BOARD_COLUMNS;
+    const isThere = wanted >= RAM_START && wanted < RAM_START + RAM_BYTES;
+    $("board-address").setAttribute("aria-invalid", !isThere);
+    $("board-address").title = isThere ? "" : `RAM goes from ${hex(RAM_START)} to `
+      + `${hex(RAM_START + RAM_BYTES - 1)}. A register, as sp, can stand here too.`;
+    if (!isThere) return;
+    const first = Math.min(Math.floor((wanted - RAM_START) / 4), last);
+    const makeOne = () => makeRow("tr", [make("th"), ...Array.from({ length: BOARD_COLUMNS }, () => make("td"))]);
+    const rows = resize($("board-memory").tBodies[0], BOARD_ROWS, makeOne);
+    for (let row = 0; row < BOARD_ROWS; row++) {
+      const at = first + row * BOARD_COLUMNS;
+      const [head, ...cells] = rows[row].children;
+      setText(head, hexOf(RAM_START + 4 * at));
+      cells.forEach((cell, column) => setText(cell, hexOf(kit.words[at + column])));
+    }
   }
 
   /* What was printed, and the cursor behind it. One who has scrolled up stays there. */
@@ -140,9 +180,10 @@ class BoardView {
 
   renderState() {
     const { board } = this;
-    const { isRunning, isWaiting, ending, steps } = board;
+    const { isRunning, isWaiting, isAtStop, ending, steps } = board;
     const going = isWaiting ? "It waits for what you type." : "It runs.";
-    setText($("board-state"), ending || (isRunning ? going : "It is paused."));
+    const paused = isAtStop ? `It stopped before ${hex(board.kit.pc)}.` : "It is paused.";
+    setText($("board-state"), ending || (isRunning ? going : paused));
     setText($("board-run"), isRunning ? "Pause" : "Go on");
     for (const id of ["board-run", "board-step"]) {
       $(id).setAttribute("aria-disabled", ending !== "");

@@ -18,6 +18,9 @@ const SLICE_STEPS = 4096;
 const SHORTEST_WAIT_MS = 16;
 const LONGEST_SLEEP_MS = 500;
 
+/* How long a call that waits has a run wait at most. */
+const LONGEST_CALL_MS = 60000;
+
 const LARGEST_BASE = 2 ** 32 - MOST_BYTES;
 const SIZES = [1 << 16, 1 << 18, 1 << 20];
 
@@ -26,6 +29,7 @@ const PRESETS = [
   { name: "64 KiB, as rrs run has", size: 1 << 16, hasStack: false },
   { name: "1 MiB, sp at its end, as rrs exec has", size: 1 << 20, hasStack: true },
   { name: "64 KiB, sp at its end", size: 1 << 16, hasStack: true },
+  { name: "as RARS has it: data at 0x10010000", ...RARS_MEMORY },
 ];
 
 /* How many bytes of zeros lie above sp where a process starts: no arguments, no environment, and an
@@ -38,6 +42,20 @@ const NO_WORDS = {
   entry: 0, code: null,
 };
 
+/* How many characters of a statement are told where it faults. */
+const STATEMENT_SHOWN = 60;
+
+/* The words at which the instructions of a line of the source begin, by the line. */
+function startsOf(sources, code) {
+  const starts = new Map();
+  for (const [index, { line }] of sources) {
+    if (sources.get(index - 1)?.line === line || code !== null && code[index] === 0) continue;
+    if (starts.has(line)) starts.get(line).push(index);
+    else starts.set(line, [index]);
+  }
+  return starts;
+}
+
 /** A machine with its program, breakpoints, and what was last said of it. */
 class Session {
   constructor(machine) {
@@ -48,6 +66,7 @@ class Session {
     this.isRunning = false;
     this.onChange = () => {};
     this.onEnd = () => {};
+    this.onStops = () => {};
   }
 
   /** The text of a word at an address, with the names of registers that were chosen, and a target
@@ -55,7 +74,8 @@ class Session {
   disassemble(word, address, names = this.names) {
     const { kit, environment } = this.machine;
     const listed = kit.disassemble(word, address);
-    const plain = listed === "" && environment.hasTraps ? textOfMachineMode(word) : inDecimal(listed);
+    const isOfMachine = listed === "" && (environment.hasTraps || isCounterRead(word));
+    const plain = isOfMachine ? textOfMachineMode(word) : inDecimal(listed);
     const text = withNames(plain, names);
     return isJumpToTarget(word) ? text.replace(/0x[0-9a-f]{8}$/, this.labelled) : text;
   }
@@ -88,15 +108,17 @@ class Session {
   }
 
   /** Opens a program: `{ name, about, text, language, base, size, hasStack, calls, input, memory,
-   * code }`, with one of LANGUAGES and one of ENVIRONMENTS, what is typed before it starts, what
-   * stands at its labels then, and which of its words are read-only, if that is known. With
-   * `keepsStops` breakpoints stay at their words, found by the label before them where it is still
-   * there. The text of a draft may have mistakes, and is to be mended in the editor. Throws a
-   * ProgramError, and then what was open stays. */
+   * code, call, given, seed }`, with one of LANGUAGES and one of ENVIRONMENTS, what is typed before
+   * it starts, what stands at its labels then, which of its words are read-only, if that is known,
+   * the call at which it begins, what a teacher gives of it, and the seed of random numbers.
+   * Breakpoints are where `stops` says, as `stopPlaces` has them. With `lineNow` those that are set
+   * stay: at their lines, of which it gives the number in the new text, or 0, and else at their words,
+   * found by the label before them where it is still there. The text of a draft may have mistakes, and
+   * is to be mended in the editor. Throws a ProgramError, and then what was open stays. */
   open({
     name, about = "", text, language = "words", base = 0, size = SIZES[0], hasStack = false,
-    calls = "linux", input = "", memory = [], code: given = null, keepsStops = false,
-    isDraft = false,
+    calls = "linux", input = "", memory = [], code: known = null, lineNow = null, stops = [],
+    isDraft = false, call = null, given = "", seed = 0,
   }) {
     if (!Number.isInteger(base) || base < 0 || base > LARGEST_BASE || base % 4 !== 0) {
       throw new ProgramError(0, `Memory can start at a multiple of 4 up to ${hex(LARGEST_BASE)}.`);
@@ -109,56 +131,105 @@ class Session {
       throw new ProgramError(0, `The calls can be those of ${known}.`);
     }
     const { machine } = this;
-    const read = isDraft ? this.readDraft(text, language, base, size)
-      : this.read(text, language, base, size);
+    const read = isDraft ? this.readDraft(text, language, base, size, given)
+      : this.read(text, language, base, size, undefined, given);
     const { words, labels, places, comments, sources, entry, isProcess, mistake = "" } = read;
-    const code = read.code ?? given;
+    const code = read.code ?? known;
     this.stop();
-    const stops = keepsStops ? this.stopsIn(places) : [];
+    const starts = startsOf(sources, code);
+    const kept = lineNow === null ? [] : this.stopsIn(places, starts, lineNow);
     Object.assign(
       this,
-      { name, about, text, language, labels, places, comments, sources, input, memory, isDraft,
-        mistake });
+      { name, about, text, language, labels, places, comments, sources, starts, input, memory,
+        isDraft, mistake, call, given, seed, waitingStops: mistake ? stops : [] });
     machine.environment = ENVIRONMENTS[calls];
+    machine.seed = seed;
     machine.load(words, base, size, hasStack, entry, isProcess ? NO_ARGUMENTS : 0, code);
     this.stops = new Uint8Array(size / 4);
-    for (const index of stops) if (index < this.stops.length) this.stops[index] = STOP.BREAKPOINT;
+    for (const index of [...kept, ...this.wordsAt(stops)]) {
+      if (index < this.stops.length) this.stops[index] = STOP.BREAKPOINT;
+    }
     this.selected = 0;
     this.start();
   }
 
-  /** Reads a text, as a program for a memory. Throws a ProgramError, also where assembling takes more
-   * room than `mostRoom`. */
-  read(text, language, base, size, mostRoom) {
+  /** The program that is open, as `open` takes it again. Breakpoints stay. */
+  get program() {
+    const { name, about, text, language, calls, input, memory, isDraft, call, given, seed } = this;
+    const { kit: { base, size }, hasStack, code } = this.machine;
+    return {
+      name, about, text, language, calls, input, memory, isDraft, call, given, seed, base, size,
+      hasStack, code, lineNow: (line) => line,
+    };
+  }
+
+  /** Reads a text, as a program for a memory, behind what is given. Throws a ProgramError, also where
+   * assembling takes more room than `mostRoom`. */
+  read(text, language, base, size, mostRoom, given = this.given) {
     if (!Object.hasOwn(LANGUAGES, language)) {
       throw new ProgramError(0, `A program can be ${Object.values(LANGUAGES).join(" or ")}.`);
     }
-    return readProgram(text, language, base, size, this.machine.kit, mostRoom);
+    return readProgram(text, language, base, size, this.machine.kit, mostRoom, given);
   }
 
   /** Reads a text that may have mistakes: then it is no words, and the first mistake. */
-  readDraft(text, language, base, size) {
+  readDraft(text, language, base, size, given) {
     try {
-      return this.read(text, language, base, size);
+      return this.read(text, language, base, size, undefined, given);
     } catch (error) {
       if (!(error instanceof ProgramError)) throw error;
       return { ...NO_WORDS, mistake: error.message };
     }
   }
 
-  /* The words of another program at which breakpoints stand, by the places of its labels: as far
-   * behind a label as in this one, and before the first label as far behind the start. */
-  stopsIn(places) {
-    const found = [];
+  /* The words of another program at which breakpoints stand: at their lines, by where its lines
+   * begin, or by the places of its labels: as far behind a label as in this one, and before the
+   * first label as far behind the start. */
+  stopsIn(places, starts, lineNow) {
+    const found = this.waitingStops.flatMap((line) => starts.get(lineNow(line)) ?? []);
     let label = { name: undefined, index: 0 };
     for (let index = 0; index < this.stops.length; index++) {
       const names = this.labels.get(index) ?? [];
       const name = names.find((each) => places.has(each));
       if (name !== undefined) label = { name, index };
       if ((this.stops[index] & STOP.BREAKPOINT) === 0) continue;
-      found.push((places.get(label.name)?.index ?? 0) + index - label.index);
+      const ofLine = starts.get(lineNow(this.lineOf(index)));
+      found.push(...ofLine ?? [(places.get(label.name)?.index ?? 0) + index - label.index]);
     }
     return found;
+  }
+
+  /** Where the breakpoints stand, as they are kept: lines of assembly, or the numbers of words. */
+  get stopPlaces() {
+    if (this.mistake) return this.waitingStops;
+    const found = new Set();
+    for (let index = 0; index < this.stops.length; index++) {
+      if ((this.stops[index] & STOP.BREAKPOINT) === 0) continue;
+      found.add(this.language === "assembly" ? this.lineOf(index) : index);
+    }
+    found.delete(0);
+    return [...found];
+  }
+
+  /* The words at places as `stopPlaces` has them. */
+  wordsAt(places) {
+    return this.language === "assembly"
+      ? places.flatMap((line) => this.starts.get(line) ?? []) : places;
+  }
+
+  /** The line of the source that a word was made of, or 0. */
+  lineOf(index) {
+    return this.sources.get(index)?.line ?? 0;
+  }
+
+  /* The statement in which an address lies, as `Line 6: lw t1, 0(t0). `, or "". */
+  statementAt(address) {
+    const index = this.machine.indexOf(address);
+    const line = this.lineOf(index);
+    if (line === 0) return "";
+    // a pseudo-instruction may be made of two words
+    const text = this.sources.get(index).text || this.sources.get(index - 1)?.text || "";
+    return `Line ${line}: ${shortened(text, STATEMENT_SHOWN)}. `;
   }
 
   /** The state before the first step. */
@@ -171,12 +242,13 @@ class Session {
   start() {
     const bytes = 4 * this.machine.program.length;
     const what = `${counted(bytes, "byte")} from ${hex(this.machine.kit.base)} on.`;
-    const isPortCovered = this.machine.indexOf(PORT_ADDRESS) >= 0;
+    const isPortCovered = !isOfRars(this.machine.kit) && this.machine.indexOf(PORT_ADDRESS) >= 0;
     const port = isPortCovered
       ? `Memory covers the port: a byte stored to ${hex(PORT_ADDRESS)} is not printed.` : "";
     this.lines = this.machine.program.length + 1;
     this.machine.terminal.type(this.input);
     for (const each of this.memory) putMemory(this, each);
+    if (this.call !== null) startCall(this, this.call);
     this.remember();
     if (this.mistake) this.say("To be edited", this.mistake, "wait");
     else this.say("Ready", [what, port, this.about].filter((part) => part).join(" "));
@@ -184,9 +256,10 @@ class Session {
 
   /** Says what stands in the page's line of the state: a sentence, or one by each choice of names
    * (`byNames`). `kind` is how it looks: "ready", "run", "wait", "done" or "end". `calls` are those
-   * that the program seems to be written for, where others are chosen. */
-  say(heading, sentence, kind = "ready", calls = null) {
-    this.notice = { heading, sentence, kind, calls };
+   * that the program seems to be written for, where others are chosen. `isFault` says that the
+   * instruction at the pc is what went wrong. */
+  say(heading, sentence, kind = "ready", calls = null, isFault = false) {
+    this.notice = { heading, sentence, kind, calls, isFault };
     const { machine } = this;
     this.lines = Math.max(this.lines, machine.indexOf(machine.kit.pc) + 1);
     this.onChange();
@@ -199,10 +272,13 @@ class Session {
   }
 
   sayEnd(end) {
-    const { heading, kind } = explain(end, this.machine, this.names);
+    const { machine } = this;
+    const { heading, kind } = explain(end, machine, this.names);
     this.isWaiting = end.reason === "waiting";
-    this.say(heading, byNames((names) => explain(end, this.machine, names).sentence), kind,
-      callsMeant(end, this.machine));
+    const isFault = kind === "end";
+    const where = isFault ? this.statementAt(machine.kit.pc) : "";
+    this.say(heading, byNames((names) => where + explain(end, machine, names).sentence), kind,
+      callsMeant(end, machine), isFault);
     this.onEnd(end);
   }
 
@@ -353,7 +429,8 @@ class Session {
       const { steps, wait } = this.pace();
       if (slice(steps)) return;
       this.say(heading, `${counted(this.machine.steps, "step")}.`, "run");
-      await new Promise((done) => setTimeout(done, wait));
+      const asleep = Math.min(this.machine.asleep, LONGEST_CALL_MS);
+      await new Promise((done) => setTimeout(done, Math.max(wait, asleep)));
     }
   }
 
@@ -379,6 +456,7 @@ class Session {
     const last = machine.steps + most;
     while (machine.steps < last && performance.now() < until) {
       const end = machine.run(Math.min(last - machine.steps, SLICE_STEPS), this.stops);
+      if (end === null && machine.asleep > 0) return false;
       if (end === null || this.isDeeper(end)) continue;
       this.endRun(end);
       return true;
@@ -470,6 +548,26 @@ class Session {
 
   toggleBreakpoint(index) {
     this.stops[index] ^= STOP.BREAKPOINT;
+    this.onStops();
+    this.onChange();
+  }
+
+  /** The line, at a line of the source or below it, with an instruction, or undefined. */
+  lineWithCode(line) {
+    if (this.starts.has(line)) return line;
+    const below = [...this.starts.keys()].filter((other) => other > line);
+    return below.length > 0 ? Math.min(...below) : undefined;
+  }
+
+  /** Sets breakpoints at a line of the source that has instructions, or takes them away. */
+  toggleStopsOf(line) {
+    const words = this.starts.get(line);
+    const isSet = words.some((index) => this.stops[index] & STOP.BREAKPOINT);
+    for (const index of words) {
+      if (isSet) this.stops[index] &= ~STOP.BREAKPOINT;
+      else this.stops[index] |= STOP.BREAKPOINT;
+    }
+    this.onStops();
     this.onChange();
   }
 

@@ -64,6 +64,7 @@ class Traps {
   /** As at reset: no handler, no alarm, nothing pending. */
   reset() {
     this.csrs.fill(0);
+    this.csrs[CSR.profile] = PROFILE.ATOMICS;
     Object.assign(this, { time: 0, software: 0, ...NO_ALARM });
   }
 
@@ -198,12 +199,33 @@ function serveDevice(machine, fault, word) {
   return null;
 }
 
+/* What takes back what the instruction at the pc may store, where it is one of extension A: nothing
+ * where it has no memory, or null where it stores to an instruction of the program. */
+function changesOfAtomic(machine) {
+  const { kit, code } = machine;
+  const word = machine.wordAtPc();
+  if (word === undefined || !isAtomic(word)) return [];
+  const index = machine.indexOf(kit.x[word >>> 15 & 31]);
+  if (index >= 0 && code !== null && code[index] === 1 && word >>> 27 !== 2) return null;
+  return index < 0 ? [] : [kit.noteWord(index)];
+}
+
+/* The end of a program by an instruction of extension A that stores to one of its instructions. */
+function refuseAtomic(machine) {
+  const { kit, history } = machine;
+  const address = kit.x[machine.wordAtPc() >>> 15 & 31];
+  kit.u32.set(kit.noteRegister(0), history.next);
+  return { reason: "fault", kind: FAULT.STORE, address, word: 0, isCode: true };
+}
+
 /* Has the library take an interrupt, where `fault` is null, or execute what the kit refuses: an
  * instruction of machine mode, or one that raises an exception. Answers an end where there is no
  * handler, or nothing ends a wait. */
 function makeTrap(machine, fault) {
   const { kit, history, traps, terminal } = machine;
   const before = traps.mark();
+  const changes = changesOfAtomic(machine);
+  if (changes === null) return refuseAtomic(machine);
   const place = history.next;
   const x = kit.x.slice();
   const word = machine.wordAtPc() ?? 0;
@@ -224,7 +246,7 @@ function makeTrap(machine, fault) {
   kit.u32[place + RECORD.rdBefore] = x[rd];
   const cause = isTrap ? CAUSES[traps.csrs[CSR.mcause]] ?? "trap" : undefined;
   const extra = {
-    madeBy: MADE_BY.TRAP, access: NO_ACCESS, mark: terminal.mark(), traps: before, cause,
+    madeBy: MADE_BY.TRAP, access: NO_ACCESS, mark: terminal.mark(), traps: before, cause, changes,
     changed: traps.changedSince(before),
   };
   // a trap executes no instruction
@@ -234,13 +256,34 @@ function makeTrap(machine, fault) {
 }
 
 const CSR_CALLS = ["", "csrrw", "csrrs", "csrrc", "", "csrrwi", "csrrsi", "csrrci"];
+/* The instructions of extension A, by bits 31 to 27. */
+const ATOMICS = {
+  0: "amoadd.w", 1: "amoswap.w", 2: "lr.w", 3: "sc.w", 4: "amoxor.w", 8: "amoor.w", 12: "amoand.w",
+  16: "amomin.w", 20: "amomax.w", 24: "amominu.w", 28: "amomaxu.w",
+};
+
+/** Whether a word is an instruction of extension A. */
+const isAtomic = (word) => (word & 0x707f) === 0x202f && ATOMICS[word >>> 27] !== undefined;
+
+/* The text of an instruction of extension A. */
+function textOfAtomic(word) {
+  const order = ["", ".rl", ".aq", ".aqrl"][word >>> 25 & 3];
+  const [rd, rs1, rs2] = [7, 15, 20].map((bit) => `x${word >>> bit & 31}`);
+  const name = ATOMICS[word >>> 27];
+  return `${name}${order} ${name === "lr.w" ? rd : `${rd}, ${rs2}`}, (${rs1})`;
+}
+
 const OTHER_CALLS = { 0x30200073: "mret", 0x10500073: "wfi", 0x0000100f: "fence.i" };
 
 /** The text of an instruction of machine mode, or "". */
 function textOfMachineMode(word) {
+  if (isAtomic(word)) return textOfAtomic(word);
   const call = (word & 0x7f) === 0x73 ? CSR_CALLS[word >>> 12 & 7] : "";
   if (!call) return OTHER_CALLS[word] ?? "";
   const name = CSR_NAMES[word >>> 20] ?? `0x${hexOf(word >>> 20, 3)}`;
   const source = word >>> 15 & 31;
   return `${call} x${word >>> 7 & 31}, ${name}, ${call.endsWith("i") ? source : `x${source}`}`;
 }
+
+/** Whether a word is an instruction that machine mode has, and programs elsewhere have not. */
+const isOfMachineMode = (word) => textOfMachineMode(word) !== "";

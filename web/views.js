@@ -76,11 +76,12 @@ class ListingView {
     this.sheet = make("div", "sheet");
     this.box.append(this.sheet);
     this.top = 0;
+    this.onRunTo = () => {};
     this.room = new Room(this.box, () => this.render());
     this.box.addEventListener("scroll", () => this.scroll());
     this.box.addEventListener("click", (event) => this.click(event));
     this.box.addEventListener("dblclick", ({ target }) => {
-      if (target.closest(".line") && target.className !== "gutter") session.runToLine();
+      if (target.closest(".line") && target.className !== "gutter") this.onRunTo();
     });
   }
 
@@ -192,7 +193,7 @@ class ListingView {
     setText(executed.lastChild, count ? count.toLocaleString("en") : "");
     executed.firstChild.style.width = `${100 * Math.log1p(count) / Math.log1p(this.most)}%`;
     const parts = [labels, hex(address), text || "no instruction"];
-    if (source) parts.push(`line ${source.line}`);
+    if (source) parts.push(source.line > 0 ? `line ${source.line}` : "given");
     if (isPc) parts.push("next");
     if (isStop) parts.push("breakpoint");
     if (count) parts.push(`executed ${counted(count, "time")}`);
@@ -599,15 +600,13 @@ const YOUR_OWN = "your own";
 /* How long a program is judged before the page answers. */
 const JUDGED_MS = 12;
 
-/* How many tries of an exercise are kept. */
-const MOST_TRIES = 50;
-
-/* Adds a try, unless it is the latest one again. */
+/* Adds a try, unless it is the latest one again. The best one stays. */
 function addTry(exercise, attempt) {
   exercise.tries ??= [];
-  if (exercise.tries.at(-1)?.text === attempt.text) exercise.tries.pop();
-  exercise.tries.push(attempt);
-  if (exercise.tries.length > MOST_TRIES) exercise.tries.shift();
+  const { tries } = exercise;
+  if (tries.at(-1)?.text === attempt.text) tries.pop();
+  tries.push(attempt);
+  if (tries.length > MOST_TRIES) tries.splice(bestOf(tries) === 0 ? 1 : 0, 1);
 }
 
 /* A text, in which what stands in backticks is code, as nodes. */
@@ -622,18 +621,33 @@ function makeParagraph({ isCode, text }) {
   return paragraph;
 }
 
-/* What came of a case. Of one that is hidden nothing is told but whether it is right. */
+/* What came of a case, by whose button the program is at its start. Of one that is hidden nothing is
+ * told but whether it is right. */
 function makeCase(told, at, names) {
   const { title, isHidden, misses } = told;
   const isRight = misses.get(names).length === 0;
   const name = title || `case ${at + 1}`;
   const why = isHidden ? "not right (its input is hidden)" : missedIn(told, names);
-  return make("li", isRight ? "right" : "missed", `${name}: ${isRight ? "right" : why}`);
+  const item = make("li", isRight ? "right" : "missed");
+  const start = make("button", "", name);
+  start.type = "button";
+  start.dataset.case = at;
+  start.title = "Have the program at the start of this case, to step through it";
+  item.append(isHidden ? name : start, `: ${isRight ? "right" : why}`);
+  return item;
+}
+
+/* That an earlier try has more cases right than the latest one, or "". */
+function bestTold(tries = []) {
+  const best = tries[bestOf(tries)];
+  return best === undefined || best.right <= tries.at(-1).right ? ""
+    : ` The best of your ${counted(tries.length, "try").replace("trys", "tries")} has `
+      + `${best.right} of ${best.of} right.`;
 }
 
 /** What is said of the latest try of an exercise, and the class of its look: of one case what is
  * missed. */
-function verdictOf({ told, cases, isSolved, mistake }, isChecking, names) {
+function verdictOf({ told, cases, isSolved, mistake, tries }, isChecking, names) {
   const [, line] = /^Line (\d+):/.exec(mistake) ?? [];
   if (line) return ["end", `Not checked: line ${line} has a mistake.`];
   if (mistake) return ["end", `Not checked. ${mistake}`];
@@ -646,8 +660,9 @@ function verdictOf({ told, cases, isSolved, mistake }, isChecking, names) {
   const right = rightOf(told);
   if (right === told.length) return ["done", "Solved."];
   const isOne = cases.length === 1 && !told[0].isHidden;
-  return ["end", isOne ? missedIn(told[0], names)
-    : `${right} of ${cases.length} cases are right.`];
+  const why = told.guards?.length > 0 ? told.guards.join(" ") : isOne ? missedIn(told[0], names)
+    : `${right} of ${cases.length} cases are right.`;
+  return ["end", why + bestTold(tries)];
 }
 
 /** The exercises of the lesson that is open, and what came of the one that is tried. */
@@ -711,7 +726,7 @@ class LessonView {
     Object.assign(exercise, { told, checking: 0 });
     const right = rightOf(told);
     if (right === told.length) exercise.isSolved = true;
-    addTry(exercise, { text, language, right, of: told.length });
+    addTry(exercise, { text, language, right, of: told.length, at: Date.now() });
     if (exercise === this.exercise) this.show();
   }
 
@@ -735,7 +750,9 @@ class LessonView {
     const { lesson, number, exercise } = this;
     const { exercises } = lesson;
     const solved = exercises.filter(({ isSolved }) => isSolved).length;
-    const asHandedIn = lesson.handedIn === undefined ? "" : ", as it was handed in";
+    const by = headOf(lesson.handedIn ?? "")?.name;
+    const asHandedIn = lesson.handedIn === undefined ? ""
+      : `, as it was handed in${by ? ` by ${by}` : ""}`;
     setText($("lesson-solved"), `${solved} of ${exercises.length} solved${asHandedIn}`);
     [...$("exercises").children].forEach((item, at) => {
       item.className = exercises[at].isSolved ? "solved" : "";
@@ -745,7 +762,10 @@ class LessonView {
       item.firstChild.setAttribute("aria-description", said);
     });
     setText($("exercise-title"), exercise.title);
-    $("exercise-about").replaceChildren(...[...lesson.about, ...exercise.about].map(makeParagraph));
+    const rules = rulesOf(exercise) ? [{ isCode: false, text: rulesOf(exercise) }] : [];
+    const given = exercise.given ? [{ isCode: true, text: exercise.given.trimEnd() }] : [];
+    $("exercise-about").replaceChildren(
+      ...[...lesson.about, ...exercise.about, ...rules, ...given].map(makeParagraph));
     this.showHints();
     this.showVerdict();
   }
@@ -769,8 +789,103 @@ class LessonView {
     const [look, sentence] = verdictOf(exercise, checking === turn, names);
     $("exercise-check").className = `check ${look}`;
     setText($("exercise-check"), sentence);
-    const all = told !== undefined && cases.length > 1 ? told : [];
+    const isListed = cases.length > 1 || cases[0].made.length > 0;
+    const all = told !== undefined && isListed && told.guards.length === 0 ? told : [];
     $("exercise-cases").replaceChildren(...all.map((each, at) => makeCase(each, at, names)));
+  }
+}
+
+/* ---- the grades of a class */
+
+/** The table of what several have handed in. */
+class GradesView {
+  /** Shows the rows of a table, and what could not be read. */
+  show(lesson, exercises, rows, unread) {
+    this.text = csvOf(rows, exercises);
+    this.name = `${fileNameOf(lesson.title, "words").replace(/\.hex$/, "")}.csv`;
+    setText($("grades-title"), `Grades: ${lesson.title || "Lesson"}`);
+    setText($("grades-note"), [
+      `${counted(rows.length, "file")}. Points are the cases that are right in the latest try, and in `
+      + "the best one.", ...unread].join(" "));
+    const heads = ["Name", ...exercises.map(([{ title }, number]) => `${number} ${title}`), "Latest",
+      "Best", "Notes"];
+    $("grades-table").tHead.replaceChildren(makeRow("tr", heads.map((text) => {
+      const cell = make("th", "", text);
+      cell.scope = "col";
+      return cell;
+    })));
+    $("grades-table").tBodies[0].replaceChildren(...rows.map((row) =>
+      this.rowOf(row, exercises, rows)));
+    if (!$("grades").open) $("grades").showModal();
+  }
+
+  rowOf(row, exercises, rows) {
+    const { latest, best } = sumsOf(row);
+    const name = make("th", "", row.name);
+    [name.scope, name.title] = ["row", row.file];
+    const points = exercises.map(([, number]) => {
+      const tries = row.results.find((result) => result.number === number)?.tries ?? [];
+      const [one, other] = [tries.at(-1), tries[bestOf(tries)]];
+      if (one === undefined) return "";
+      return one.right === other.right ? `${one.right} of ${one.of}`
+        : `${one.right} of ${one.of}, best ${other.right}`;
+    });
+    const cells = [...points, latest, best, notesOf(row, rows).join("; ")];
+    return makeRow("tr", [name, ...cells.map((text) => make("td", "", String(text)))]);
+  }
+}
+
+/* ---- the bitmap */
+
+/* The sizes that a bitmap may have, in pixels, and where its first word is. */
+const BITMAP_SIZES = [[16, 16], [32, 32], [64, 32], [64, 64], [128, 128], [256, 256], [512, 256]];
+const BITMAP_PLACES = { data: "data", gp: "gp", heap: "heap" };
+
+/** Words of memory as pixels, each with 8 bits of red, of green and of blue. */
+class BitmapView {
+  constructor(session) {
+    this.session = session;
+    $("bitmap-size").append(...BITMAP_SIZES.map(([width, height], at) =>
+      new Option(`${width} × ${height}`, at)));
+    $("bitmap-size").value = 3;
+    $("bitmap-at").append(...Object.keys(BITMAP_PLACES).map((name) =>
+      new Option(`${hex(RARS_PLACES[name])} (${name})`, name)));
+    for (const id of ["bitmap-size", "bitmap-at"]) {
+      $(id).addEventListener("change", () => this.render());
+    }
+    $("bitmap").addEventListener("keydown", (event) => this.press(event));
+  }
+
+  /* A key goes to the program's keyboard. */
+  press(event) {
+    const { key, ctrlKey, altKey, metaKey } = event;
+    const letter = { Enter: "\n", Backspace: "\b" }[key] ?? key;
+    if (letter.length !== 1 || ctrlKey || altKey || metaKey) return;
+    event.preventDefault();
+    event.stopPropagation();
+    this.session.type(letter);
+  }
+
+  render() {
+    if ($("panel-bitmap").hidden) return;
+    const { machine: { kit }, machine } = this.session;
+    const [width, height] = BITMAP_SIZES[$("bitmap-size").value];
+    const from = machine.indexOf(RARS_PLACES[$("bitmap-at").value]);
+    const isThere = from >= 0 && from + width * height <= kit.words.length;
+    setText($("bitmap-note"), isThere ? "" : "The memory has no such words: choose the one of RARS, "
+      + "under More.");
+    const canvas = $("bitmap");
+    if (canvas.width !== width || canvas.height !== height) {
+      Object.assign(canvas, { width, height });
+    }
+    const pixels = new Uint32Array(width * height);
+    for (let at = 0; at < pixels.length; at++) {
+      const word = isThere ? kit.words[from + at] : 0;
+      // red stands lowest in a picture's word, and blue in the program's
+      pixels[at] = 0xff000000 | (word & 0xff) << 16 | word & 0xff00 | word >>> 16 & 0xff;
+    }
+    const data = new ImageData(new Uint8ClampedArray(pixels.buffer), width, height);
+    canvas.getContext("2d").putImageData(data, 0, 0);
   }
 }
 

@@ -131,6 +131,11 @@ function exitCall({ environment }, names) {
 const FAULT_SENTENCES = {
   [FAULT.ILLEGAL]({ address, word }, machine, names) {
     const what = `The word at ${hex(address)} is ${hex(word)}, which is no instruction of RV32IM.`;
+    if (isOfMachineMode(word) && !machine.environment.hasTraps) {
+      const text = machine.kit.disassemble(word, 0) || textOfMachineMode(word);
+      return `The word at ${hex(address)} is ${hex(word)}, ${withNames(text, names)}: machine mode `
+        + "has this instruction. Choose machine mode here.";
+    }
     if (ranPastEnd(machine)) {
       return `The program has no exit: it ran past its last instruction. ${what} A program ends by `
         + `${exitCall(machine, names)}.`;
@@ -187,7 +192,11 @@ const FAULT_SENTENCES = {
     return `The ecall at ${hex(address)} asks for system call ${number} (${register}). This page `
       + `serves ${callsOf(environment)}, as ${environment.name} has them.`;
   },
-  [FAULT.EBREAK]({ address }) {
+  [FAULT.EBREAK]({ address }, { called, kit: { x } }, names) {
+    if (called?.back === address) {
+      return `${called.text} has returned: ${names[REGISTER.A0]} is ${x[REGISTER.A0] | 0} `
+        + `(${hex(x[REGISTER.A0])}).`;
+    }
     return `The program asked to stop, by the ebreak at ${hex(address)}.`;
   },
 };
@@ -205,7 +214,9 @@ const FAULT_NAMES = {
 /** The name of the environment whose call an `ecall` seems to make that the chosen one does not
  * serve, or null. */
 function callsMeant(end, { kit, environment }) {
-  if (end.reason !== "fault" || end.kind !== FAULT.ECALL || environment.hasTraps) return null;
+  if (end.reason !== "fault" || environment.hasTraps) return null;
+  if (end.kind === FAULT.ILLEGAL && isOfMachineMode(end.word)) return "machine";
+  if (end.kind !== FAULT.ECALL) return null;
   const isMeant = (other) => other !== environment && other.calls[kit.x[other.number]] !== undefined
     && (other.number === REGISTER.A7 || kit.x[REGISTER.A7] === 0);
   return Object.keys(ENVIRONMENTS).find((name) => isMeant(ENVIRONMENTS[name])) ?? null;
@@ -215,12 +226,17 @@ function callsMeant(end, { kit, environment }) {
 const noHandler = ({ environment }, { isCode }) => (environment.hasTraps && !isCode
   ? "There is no handler: mtvec was never set. " : "");
 
+/* Whether a call that a case made has returned. */
+const isReturn = ({ kind, address }, { called }) =>
+  kind === FAULT.EBREAK && called !== null && called.back === address;
+
 /* Of each end its heading, its sentence, and which kind of news it is. */
 const EXPLAINED = {
   fault: (end, machine, names) => ({
-    heading: FAULT_NAMES[end.kind],
-    sentence: `${FAULT_SENTENCES[end.kind](end, machine, names)} ${noHandler(machine, end)}`
-      + "Nothing was changed by it.",
+    heading: isReturn(end, machine) ? "Returned" : FAULT_NAMES[end.kind],
+    sentence: isReturn(end, machine) ? FAULT_SENTENCES[end.kind](end, machine, names)
+      : `${FAULT_SENTENCES[end.kind](end, machine, names)} ${noHandler(machine, end)}`
+        + "Nothing was changed by it.",
     // a program may ask to stop, but where a handler should serve its ebreak
     kind: end.kind === FAULT.EBREAK && !machine.environment.hasTraps ? "done" : "end",
   }),

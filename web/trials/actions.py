@@ -55,7 +55,7 @@ STATE = """(() => {
             .map(({ textContent }) => textContent).join(": "),
         pace: SPEEDS[rrs.session.speed], names: chosen("names"), calls: chosen("calls"),
         preset: chosen("preset"),
-        line: document.querySelector("#line-5 .instruction").textContent,
+        line: document.querySelector("#line-5 .instruction")?.textContent ?? "",
         around: chosen("around"), address: document.getElementById("address").value,
         note: text("lost"), theme: getComputedStyle(document.documentElement).colorScheme,
         focus: focus.id || focus.tagName,
@@ -122,6 +122,10 @@ EFFECTS = {
     "preset": {"focus": "preset"},
     "details": {"details": "frames"},
     "edit": {"isEditing": True, "focus": "text"},
+    "create": {"heading": "To be edited", "sentence": "There is no statement in it.",
+               "steps": "0 steps", "pc": "0x00000000", "selected": "line-0", "stops": "",
+               "line": "", "isEditing": True, "focus": "text"},
+    "kept": {"dialog": "keeping", "focus": "INPUT"},
     "open": {},
     "save": {},
     "link": {"dialog": "shared", "focus": "link"},
@@ -132,7 +136,7 @@ EFFECTS = {
 }
 
 # the actions that have a button, and those that a menu does too: its name, and the arrow key
-BUTTONS = ["open", "save", "link", "keys", "theme", "runBack", "stepBack", "step", "stepOver",
+BUTTONS = ["open", "save", "link", "keys", "create", "kept", "theme", "runBack", "stepBack", "step", "stepOver",
            "stepOut", "run", "pause", "runToOutput", "runToLine", "reset", "check",
            "hint", "handIn", "closeLesson", "breakpoint", "edit", "change", "endInput", "memoryUp",
            "memoryDown"]
@@ -191,7 +195,7 @@ def by_each_way(machine):
         if name in ("check", "hint", "handIn", "closeLesson"):
             continue
         prepare(page, name)
-        if name == "theme":
+        if name in ("create", "kept", "theme"):
             page.click("#more summary")
         page.click(f"[data-action={name}]")
         has_effect(page, "its button", name, EFFECTS[name], has_focus=False)

@@ -31,6 +31,10 @@ greeting: .string "hi\\r\\n"
 HIDDEN = "['controls', 'main'].map((id) => getComputedStyle(document.getElementById(id)).display)"
 
 
+# the first address of what is shown of RAM, and its word
+ROW = "[...$('board-memory').rows[0].cells].slice(0, 2).map(({ textContent }) => textContent)"
+
+
 def image(page, text):
     """What a text assembles to from the start of RAM on, by the page's own assembler."""
     return base64.b64decode(page.ask(
@@ -76,6 +80,27 @@ def board(machine):
     page.wait(f"rrs.board.board.steps === {steps + 1}")
     page.wait(f"document.querySelector('#board-steps').textContent.startsWith("
               f"({steps + 1}).toLocaleString('en') + ' steps, ')")
+    page.replace("#board-stops", "80000020, x")
+    page.press("Tab")
+    same("what is no address", "Addresses are wanted, which are multiples of 4, as 0x80000010.",
+         page.ask("$('board-stops').title"))
+    page.replace("#board-stops", "0x80000020")
+    page.press("Tab")
+    page.click("#board-run")
+    page.wait("document.querySelector('#board-state').textContent === 'It stopped before 0x80000020.'")
+    page.replace("#board-stops", "")
+    page.press("Tab")
+    same("RAM from its start on", ["80000000", "10000437"], page.ask(ROW))
+    page.replace("#board-address", "pc")
+    page.press("Tab")
+    same("at the pc", ["80000020", "00544283"], page.ask(ROW))
+    page.replace("#board-address", "0")
+    page.press("Tab")
+    same("where there is no RAM", ["true", "80000020"], page.ask(
+        f"[$('board-address').ariaInvalid, {ROW}[0]]"))
+    page.replace("#board-address", "0x81fffff0")
+    page.press("Tab")
+    same("at its end", "81ffffa0", page.ask(f"{ROW}[0]"))
     page.click("#board-run")
     page.click("#terminal")
     page.press("q")

@@ -20,6 +20,9 @@ const { tryTraps } = require("./cases/traps.js");
 const { tryChanges } = require("./cases/changes.js");
 const { tryAssembly } = require("./cases/assembly.js");
 const { tryLessons } = require("./cases/lessons.js");
+const { tryGuards } = require("./cases/guards.js");
+const { tryGrading } = require("./cases/grading.js");
+const { tryRars } = require("./cases/rars.js");
 const { tryExecutables } = require("./cases/executables.js");
 const { tryBoards } = require("./cases/boards.js");
 
@@ -40,6 +43,9 @@ async function main([folder, module]) {
   await tryChanges(report, page, kit, clock);
   tryAssembly(report, page, kit);
   await tryLessons(report, page, kit, clock);
+  await tryGuards(report, page, kit);
+  await tryGrading(report, page, kit);
+  tryRars(report, page, kit);
   await tryExecutables(report, page, kit);
   await tryBoards(report, page, kit, clock);
   for (const [subject, count] of report.counts) console.log(`${subject} ${count}`);

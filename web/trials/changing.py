@@ -6,7 +6,7 @@ import re
 import tempfile
 
 from trials.report import same
-from trials.view import WEB, js
+from trials.view import NOTHING, WEB, js
 
 OPEN = "document.querySelector('dialog[open]')?.id ?? null"
 FIELDS = "['place', 'value'].map((id) => document.getElementById(id).value)"
@@ -230,7 +230,7 @@ def calls_meant(machine):
     page = machine.page
     page.ask("rrs.openExample('ecall')")
     machine.run()
-    machine.says("Environment call", "The ecall at 0x00000008 is none of Linux's: a7 = 1 is PrintInt "
+    machine.says("Environment call", "Line 4: ecall. The ecall at 0x00000008 is none of Linux's: a7 = 1 is PrintInt "
                  "of RARS. Choose its calls here. Nothing was changed by it.")
     same("the button", "Choose RARS's calls", page.text("#choose-calls"))
     page.click("#choose-calls")
@@ -250,8 +250,11 @@ def calls_in_the_docs():
     """The numbers and names of the calls that BROWSER.md has of other simulators."""
     text = (WEB.parent / "docs" / "BROWSER.md").read_text(encoding="utf-8")
     rows = re.findall(r"^\| (RARS|Venus) \| (a[07]) \| (.*) \|$", text, re.MULTILINE)
-    return {name: (register, [call.split(" ") for call in calls.split(", ")])
-            for name, register, calls in rows}
+    found = {}
+    for name, register, calls in rows:
+        found.setdefault(name, (register, []))[1].extend(call.split(" ") for call in calls.split(", "))
+    return {name: (register, sorted(calls, key=lambda call: int(call[0])))
+            for name, (register, calls) in found.items()}
 
 
 def calls_shown(machine):
@@ -282,7 +285,190 @@ def calls_shown(machine):
     machine.keys("h")
 
 
+# ---- the text that one sees
+
+TYPED = "main: li a0, 1\n  li a0, 2\n  ebreak\n"
+WITH_MISTAKE = "main: li a0, 3\n  foo a0\n"
+SHOWN = ("[$('x10').lastChild.textContent, $('heading').textContent, rrs.editor.isChanged,"
+         " rrs.session.isRunning]")
+
+
+def type_in_editor(machine, text, leaves=True):
+    """Types a program of assembly into the editor, and leaves it by Escape."""
+    machine.leave_fields()
+    machine.keys("e")
+    machine.page.choose("#language", "assembly")
+    machine.page.replace("#text", text)
+    if leaves:
+        machine.escape()
+
+
+def run_after_typing(machine):
+    """what one sees is what runs: a text that was changed is assembled first, and a mistake stops it"""
+    page = machine.page
+    ways = {"r": "0x00000002", "s": "0x00000001", "S": "0x00000001", "t": "0x00000002",
+            "R": "0x00000002"}
+    for key, value in ways.items():
+        machine.choose("three")
+        machine.keys("s")
+        type_in_editor(machine, TYPED)
+        same("the note", True, page.ask("$('unloaded').checkVisibility()"))
+        machine.run(key)
+        same(f"after {key}", [value, False], [machine.register("x10"), page.ask(
+            "rrs.editor.isChanged")])
+    for button, value in (("run", "0x00000002"), ("step", "0x00000001"), ("stepOver", "0x00000001")):
+        machine.choose("three")
+        type_in_editor(machine, TYPED, leaves=False)
+        page.click(f"[data-action={button}]")
+        page.wait("!rrs.session.isRunning")
+        same(f"by the button {button}, in the editor, which stays", [value, True], [
+            machine.register("x10"), page.ask("$('text').checkVisibility()")])
+        machine.leave_fields()
+    steps = page.text("#steps")
+    for key in ("r", "s", "S"):
+        type_in_editor(machine, WITH_MISTAKE)
+        machine.keys(key)
+        same(f"a mistake stops {key}", ["Not run", "What is wrong with the text stands below it.", True,
+                                        steps, ["text", 17]], [
+            page.text("#heading"), page.text("#sentence"), page.ask("$('text').checkVisibility()"),
+            page.text("#steps"), page.ask("[document.activeElement.id, $('text').selectionStart]")])
+        same("and is told once", ["", ["Line 2: no such instruction or directive: foo"]], [
+            page.text("#mistake"), page.ask("[...$('mistakes').children].map((one) => one.textContent)")])
+    type_in_editor(machine, "main: j main\n")
+    machine.keys("r")
+    page.wait("rrs.session.machine.steps > 1000")
+    type_in_editor(machine, WITH_MISTAKE)
+    machine.keys("r")
+    page.wait("!rrs.session.isRunning")
+    machine.says("Not run")
+    type_in_editor(machine, TYPED)
+    machine.keys("x")
+    same("a reset keeps the program, and the text", [True, True], page.ask(
+        "[rrs.editor.isChanged, rrs.session.text.includes('j main')]"))
+
+
+FAULTS = """main:
+    li   a0, 5
+    la   t2, x
+    lw   t1, 0(t2)
+    li   t0, 0x40000000
+    lw   t1, 0(t0)
+    ebreak
+.data
+x:  .word 7
+"""
+# the lines that are marked beside the text, by what for, and the row below it
+MARKED = """(() => {
+    const line = (mark) => Number(mark.style.getPropertyValue("--line")) + 1;
+    const marks = [...document.querySelectorAll("#numbers .mark")].map((mark) =>
+        `${mark.className.replace("mark ", "")} ${line(mark)}`);
+    const [row] = document.querySelectorAll("#colours .mark");
+    return [marks, row.hidden ? "" : `${row.className.replace("mark ", "")} ${line(row)}`];
+})()"""
+
+
+def line_of_a_fault(machine):
+    """a fault says its line, which the editor marks, as it does the next one, with registers in sight"""
+    page = machine.page
+    machine.choose("three")
+    machine.take_memory_of_exec()
+    type_in_editor(machine, FAULTS, leaves=False)
+    page.press("Enter", "Ctrl")
+    page.wait("!rrs.session.isRunning && $('heading').textContent === 'Load fault'")
+    machine.says("Load fault", "Line 6: lw   t1, 0(t0). The instruction at 0x00000014 loads from "
+                 f"0x40000000, where there is no memory. Memory goes from 0x00000000 to 0x000fffff. {NOTHING}")
+    same("the mark", [["fault 6"], "fault 6"], page.ask(MARKED))
+    same("where it stands", True, page.ask("""(() => {
+        const { top, bottom } = document.querySelector("#numbers .mark").getBoundingClientRect();
+        const text = $("text").getBoundingClientRect();
+        const middle = text.top + rrs.editor.paddingAbove + 5.5 * rrs.editor.lineHeight;
+        return top < middle && middle < bottom;
+    })()"""))
+    same("what is in sight", [True] * 4, page.ask("""["text", "registers", "memory", "output"].map((id) => {
+        const { top, bottom } = $(id).getBoundingClientRect();
+        return $(id).checkVisibility() && top >= 0 && top < bottom && top < innerHeight;
+    })"""))
+    page.click("[data-action=stepBack]")
+    same("a step back", [["pc 5"], "pc 5"], page.ask(MARKED))
+    page.click("[data-action=stepBack]")
+    page.ask("$('text').setSelectionRange(0, 0); $('text').focus()")
+    page.press("Enter")
+    same("the mark goes with its line", [["pc 5"], "pc 5"], page.ask(MARKED))
+    machine.escape()
+    machine.choose("illegal")
+    machine.run()
+    same("of words no line is told", True, page.text("#sentence").startswith("The word at"))
+
+
+def click_number(machine, line):
+    """Clicks the number of a line beside the text."""
+    where = machine.page.ask(f"""(() => {{
+        const {{ left }} = $("numbers").getBoundingClientRect();
+        const {{ top }} = $("text").getBoundingClientRect();
+        const {{ paddingAbove, lineHeight }} = rrs.editor;
+        return [left + 12, top + paddingAbove + ({line} - 0.5) * lineHeight - $("text").scrollTop];
+    }})()""")
+    machine.page.click_at(where)
+
+
+def breakpoints_of_the_text(machine):
+    """breakpoints stand beside the text, go with their lines, and are kept with the program"""
+    page = machine.page
+    machine.choose("three")
+    type_in_editor(machine, FAULTS, leaves=False)
+    click_number(machine, 4)
+    same("a click loads the text first", [["stop 4", "pc 2"], False], [
+        page.ask(MARKED)[0], page.ask("rrs.editor.isChanged")])
+    click_number(machine, 8)
+    same("of a line with no instruction that below it, or none", ["stop 4", "pc 2"], page.ask(MARKED)[0])
+    page.ask("$('text').setSelectionRange(0, 0); $('text').focus()")
+    page.type("# a program\n\n")
+    same("two lines on", ["stop 6", "pc 4"], page.ask(MARKED)[0])
+    page.press("Enter", "Ctrl")
+    page.wait("$('heading').textContent === 'Breakpoint'")
+    same("where it stops", [["stop 6", "pc 6"], "0x0000000c"], [
+        page.ask(MARKED)[0], machine.register("pc")])
+    page.ask("rrs.work.keep()")
+    page.click("[data-action=breakpoint]")
+    # the cursor is in the first lines, with the first instruction below
+    same("by the button, at the cursor", ["stop 4", "stop 6", "pc 6"], sorted(
+        page.ask(MARKED)[0], key=lambda mark: (mark[0] != "s", mark)))
+    page.click("[data-action=run]")
+    page.wait("$('heading').textContent === 'Load fault'")
+    page.ask("rrs.work.keep(); rrs.openExample('sum')")
+    same("none in another program", [], page.ask("rrs.session.stopPlaces"))
+    page.ask("rrs.openChoice($('own').firstElementChild.value)")
+    same("in the program again", [4, 6], page.ask("rrs.session.stopPlaces"))
+    machine.leave_fields()
+    machine.keys("e")
+    click_number(machine, 6)
+    same("one is taken away", [4], page.ask("rrs.session.stopPlaces"))
+    page.replace("#text", page.ask("$('text').value") + "foo\n")
+    page.ask("rrs.work.keep(); rrs.openChoice($('own').firstElementChild.value)")
+    same("kept beside a mistake", [4], page.ask("rrs.session.stopPlaces"))
+    page.put("#text", page.ask("$('text').value.replace('foo\\n', '')"))
+    page.press("Enter", "Ctrl")
+    page.ask("rrs.take()")
+    same("and set when it is mended", [4], page.ask("rrs.session.stopPlaces"))
+    machine.escape()
+
+
+def menu_by_letters(machine):
+    """a letter in the menu of examples goes to an example, and to nothing that is hidden"""
+    page = machine.page
+    page.ask("globalThis.thrown = []; addEventListener('error', ({ message }) => thrown.push(message));"
+             " addEventListener('unhandledrejection', ({ reason }) => thrown.push(`${reason}`)); null")
+    page.ask("rrs.openExample('sum')")
+    machine.leave_fields()
+    machine.keys("yy")
+    same("what is open, and what was thrown", ["sum", "sum", []], page.ask(
+        "[$('examples').value, rrs.example, thrown]"))
+    page.ask("$('examples').value = ''; $('examples').dispatchEvent(new Event('change'))")
+    same("where nothing is chosen", ["sum", []], page.ask("[$('examples').value, thrown]"))
+    machine.leave_fields()
+
+
 TRIALS = [
     calls_of_others, calls_meant, calls_shown, changes_by_hand, since_the_last_stop, names, calls_made,
-    kept_breakpoints,
+    kept_breakpoints, run_after_typing, line_of_a_fault, breakpoints_of_the_text, menu_by_letters,
 ]

@@ -60,7 +60,7 @@ def tree(page, inside=None):
             ((line, len(list(same_lines))) for line, same_lines in itertools.groupby(lines))]
 
 
-DIALOGS = {"shared": "l", "help": "?", "change": "u"}
+DIALOGS = {"shared": "l", "help": "?", "change": "u", "keeping": "K"}
 
 
 def listeners(page):
@@ -99,7 +99,7 @@ def trees(machine):
     machine.keys("e")
     parts += ["", "the editor", *tree(page, "form")]
     machine.escape()
-    for panel in ("frames", "log", "counts"):
+    for panel in ("frames", "log", "counts", "bitmap"):
         machine.show(panel)
         parts += ["", f"the panel {panel}", *tree(page, "tabpanel")]
     machine.show("memory")
@@ -158,8 +158,9 @@ FOCUS_ORDER = [
 ]
 FOCUS_IN = {
     "shared": ["link", "close", "copy"],
-    "help": ["first-lesson", "keys-on", "close"],
+    "help": ["first-lesson", "class-copy", "keys-on", "close"],
     "change": ["place", "value", "close", "set"],
+    "keeping": ["input", "button", "export", "import", "close"],
 }
 
 
@@ -174,8 +175,9 @@ def focus(machine):
     page.click_at([3, 3])
     same("the order of the focus", FOCUS_ORDER, tab_order(page))
     page.ask("$('more').open = true; $('more').firstElementChild.focus()")
-    same("the order in the menu of rare things", ["preset", "boot", "theme", "clear"], [
-        page.press("Tab") or page.ask(FOCUS)[0] for _ in range(4)])
+    same("the order in the menu of rare things",
+         ["preset", "create", "kept", "boot", "theme", "clear"],
+         [page.press("Tab") or page.ask(FOCUS)[0] for _ in range(6)])
     for name, key in DIALOGS.items():
         machine.leave_fields()
         page.press(key)
@@ -196,7 +198,18 @@ MARK_CONTRAST = 3
 
 
 # a source in which each colour is used, and a mistake
+FAULTS = "main: la t2, x\n  lw t1, 0(t2)\n  li t0, 0x40000000\n  lw t1, 0(t0)\n.data\nx: .word 7\n"
 COLOURED = "loop: li a0, 5 # so\n.ascii \"a\"\n  nothing\n"
+
+
+# two who hand in the same
+TWO_HAND_IN = """rrs.openFiles(["Ada", "Bo"].map((name) => new File([`handed in: Functions, arrays and strings
+by: ${name}
+
+exercise 1: Twice a number
+try: 1 of 3 right
+| main: nop
+`], `${name}.txt`)))"""
 
 
 def show_all(machine):
@@ -240,6 +253,21 @@ def show_all(machine):
     yield "source"
     machine.escape()
     yield "not loaded"
+    machine.keys("r")
+    page.wait("$('heading').textContent === 'Not run'")
+    yield "not run"
+    page.replace("#text", FAULTS)
+    page.press("Enter", "Ctrl")
+    page.wait("$('heading').textContent === 'Load fault'")
+    page.ask("rrs.session.toggleStopsOf(4)")
+    yield "fault of the text"
+    page.click("[data-action=stepBack]")
+    yield "next of the text"
+    machine.leave_fields()
+    machine.keys("K")
+    yield "what is kept"
+    machine.escape()
+    page.ask("rrs.showListing()")
     page.ask("rrs.openExample('ecall')")
     machine.run()
     page.click("#more summary")
@@ -267,9 +295,13 @@ def show_all(machine):
     page.wait("document.querySelector('#shared').open")
     yield "hand in"
     machine.escape()
+    page.ask(TWO_HAND_IN)
+    page.wait("document.querySelector('#grades').open")
+    yield "grades"
+    machine.escape()
     machine.choose("convention")
     machine.run()
-    for panel in ("frames", "log", "counts"):
+    for panel in ("frames", "log", "counts", "bitmap"):
         machine.show(panel)
         yield panel
     machine.show("memory")
@@ -331,7 +363,7 @@ def write(machine):
     (EXPECTED / "looks.txt").write_text("\n".join([*lines, ""]), encoding="utf-8")
 
 
-LOOKED_AT = 133
+LOOKED_AT = 147
 
 # ---- boxes and marks
 
@@ -425,6 +457,12 @@ def boxes_of_a_lesson(machine):
     machine.give(LESSON)
     page.wait("!document.getElementById('lesson').hidden")
     machine.run()
+    for width, height in WIDTHS:
+        page.resize(width, height)
+        page.ask("scrollTo(0, 0)")
+        same(f"the boxes at {width} of the text", ALL_IN_PLACE, page.ask(f"{SEEN}.boxes()"))
+    page.resize(*SIZE)
+    page.click("#to-listing")
     for width, height in WIDTHS:
         page.resize(width, height)
         page.ask("scrollTo(0, 0)")
@@ -562,6 +600,19 @@ def nothing_moves(machine):
 SEEN_OF_COLOURS = [7, [], "0.55", "rgba(0, 0, 0, 0.533)"]
 
 
+def forced_colours(machine):
+    """with the colours of the system the edge of the current row alone is seen"""
+    page = machine.page
+    machine.choose("sum")
+    machine.keys("ss")
+    edges = """["pc", "selected"].map((kind) => document.querySelector(`.line.${kind}`)).map((line) =>
+        getComputedStyle(line).borderLeftColor === getComputedStyle(document.body).backgroundColor)"""
+    page.send("Emulation.setEmulatedMedia", features=[{"name": "forced-colors", "value": "active"}])
+    same("whether an edge is as what is behind it, of the current row and of another", [False, True],
+         page.ask(edges))
+    page.prefer(False)
+
+
 def theme(machine):
     """light and dark: by the system and by the switch"""
     page = machine.page
@@ -653,4 +704,4 @@ def pictures(machine):
 
 OF_A_BROWSER = [first_look]
 TRIALS = [focus, light, dark, boxes, boxes_of_a_lesson, one_screen, narrow,
-          twice_as_large, nothing_moves, theme]
+          twice_as_large, nothing_moves, theme, forced_colours]

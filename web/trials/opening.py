@@ -187,7 +187,9 @@ def editor(machine):
         "# nothing": "There is no word in it.",
     }.items():
         machine.edit(text)
-        same("the mistake", mistake, page.text("#mistake"))
+        # once: in the list where a line has it, and else above
+        same("the mistake", mistake, page.ask("$('mistake').textContent + $('mistakes').textContent"))
+        machine.says("Not run", "What is wrong with the text stands below it.")
         machine.escape()
     same("line 0, of what was open", WHAT_IS_OPEN, machine.line(0)[2])
     machine.edit("go: 1234b137, f387e1b7 ; both", base="80000000")
@@ -230,7 +232,7 @@ def editor_by_keys(machine):
     page.press("Enter")
     page.type("00300293")
     page.press("Enter", "Ctrl")
-    machine.wait_closed()
+    machine.escape()
     same("Ctrl and Enter in the text", ["addi t0, zero, 2", "addi t0, zero, 3"],
          [machine.line(0)[2], machine.line(1)[2]])
     machine.keys("e")

@@ -81,7 +81,7 @@ def policy(browser):
     elements = Elements()
     elements.feed(Subject.page.read_text(encoding="utf-8"))
     scripts, styles = elements.texts["script"], elements.texts["style"]
-    same("how many scripts and styles", (27, 1), (len(scripts), len(styles)))
+    same("how many scripts and styles", (30, 1), (len(scripts), len(styles)))
     same("the policy", POLICY.format(hashes(scripts), hashes(styles)), elements.policy)
     same("attributes that it refuses, and what is taken from elsewhere", [], elements.refused)
     page = opened(browser, Subject.page.as_uri()).page
@@ -203,6 +203,8 @@ def lesson_in_firefox(browser):
                 f"{json.dumps(TWICE)}; text.dispatchEvent(new Event('input')); }})()")
     browser.ask("document.getElementById('run-text').click()")
     browser.wait("document.getElementById('lesson-solved').textContent === '1 of 5 solved'")
+    same("the editor stays", True, browser.ask("!document.getElementById('editor').hidden"))
+    browser.press("\ue00c")
     browser.press("D")
     browser.wait("document.getElementById('shared').open")
     link = browser.ask("document.getElementById('link').value")

@@ -18,6 +18,8 @@ STATEMENTS = 1000
 CHANGED, TOGETHER = 2000, 20
 ROW = re.compile(r"([0-9a-f]{8})  [0-9a-f ]{8}(?: +(\d+)  .*)?")
 MISTAKE = re.compile(r".*?:(\d+):(\d+): (.*)")
+# a `b` of RARS, which is a jump to the page and no instruction to `rrs as`
+OF_RARS = re.compile(r"(^|:|;)\s*b(?![\w.$])")
 
 
 def lines(*arguments):
@@ -74,7 +76,8 @@ def texts():
     yield "statements.s", lines(1, STATEMENTS)
     changed = lines(31, CHANGED, "changed").split("\n")
     for at in range(0, CHANGED, TOGETHER):
-        yield f"changed-{at}.s", "\n".join(changed[at:at + TOGETHER])
+        of_both = (line for line in changed[at:at + TOGETHER] if not OF_RARS.search(line))
+        yield f"changed-{at}.s", "\n".join(of_both)
 
 
 def sources():

@@ -2,6 +2,7 @@
 the calling convention."""
 
 import pathlib
+import re
 import subprocess
 import tempfile
 
@@ -74,9 +75,14 @@ def while_one_types(machine):
     same("where the cursor is", ["text", 28], page.ask(
         "[document.activeElement.id, document.getElementById('text').selectionStart]"))
     page.click("#take")
-    same("the first one, at Load", "Line 2: a register is wanted here: li takes a number",
-         page.text("#mistake"))
+    same("at Load each stands once, and the cursor at the first", ["", 3, ["text", 11]], [
+        page.text("#mistake"), page.ask(f"{MISTAKES}.length"),
+        page.ask("[document.activeElement.id, $('text').selectionStart]")])
     same("what was open", "lui sp, 0x1234b000", machine.line(0)[2])
+    page.put("#text", "foo\n" * 25)
+    page.wait(f"{MISTAKES}.length === 21")
+    same("that there may be more than are told", "There may be more: 20 are told at most.",
+         page.ask(f"{MISTAKES}.at(-1)"))
     page.replace("#text", "nop")
     page.wait(f"{MISTAKES}.length === 0")
     same("the marks", 0, page.ask("document.querySelectorAll('#numbers b, .is-wrong').length"))
@@ -482,7 +488,9 @@ HANDED_IN = {
 FUNCTIONS = LESSON.with_name("functions.txt")
 
 
-USAGE = "usage: web/grade LESSON EXERCISE FILE .., where EXERCISE is a number, a title, or all"
+USAGE = ("usage: web/grade [--csv] LESSON EXERCISE FILE .. | web/grade --class LESSON, where EXERCISE is a "
+         "number, a title, or all")
+TITLE = "Functions, arrays and strings"
 
 
 def grade(*words):
@@ -515,7 +523,7 @@ def graded():
         one = folder / "one.txt"
         one.write_text(FUNCTIONS.read_text().split("exercise: The greatest")[0])
         handed = folder / "handed.txt"
-        handed.write_text("handed in: L\n\nexercise 1: Twice a number\ntry: 0 of 3 right\n| nop\n"
+        handed.write_text(f"handed in: {TITLE}\n\nexercise 1: Twice a number\ntry: 0 of 3 right\n| nop\n"
                           "try: 3 of 3 right\n" + "".join(f"| {line}\n" for line in
                                                            HANDED_IN["ada"][1].splitlines()))
         same("what was handed in by the page", [f"{handed}: right, 3 of 3 cases, the latest of 2 tries"],
@@ -562,7 +570,9 @@ SOLVED = {number: text for number, text, grade in HANDED_IN.values() if grade.st
 CASES = "[...document.querySelectorAll('#exercise-cases li')].map((item) => item.textContent)"
 
 
-HANDED_IN_NAME = "Functions-arrays-and-strings.handed-in.txt"
+TITLE = "Functions, arrays and strings"
+KEPT = "[...document.querySelectorAll('#own option')].map((option) => option.textContent)"
+HANDED_IN_NAME = "Functions-arrays-and-strings.Ada.handed-in.txt"
 
 
 def open_functions(machine):
@@ -604,11 +614,23 @@ def hand_in(machine, folder, name=HANDED_IN_NAME):
     machine.leave_fields()
     machine.keys("D")
     page.wait("$('shared').open")
-    link = page.ask("$('link').value")
+    if page.ask("$('student').value") == "":
+        page.type("Ada")
+        page.wait("rrs.work.keeping.read('name') === 'Ada'")
+    # the link of the name takes its time
+    link = page.ask("(async () => { await rrs.showHandedIn(); return $('link').value; })()")
     page.press("Enter")
     page.browser.wait_saved(path)
     page.wait("!$('shared').open")
     return path, link
+
+
+def better_before(students, at):
+    """What is told of a try that is better than the latest, of the tries of some students."""
+    counts = [re.search(r"(\d) of (\d)", HANDED_IN[student][2]) for student in students[:at + 1]]
+    right = [int(count[1]) for count in counts]
+    return "" if max(right) == right[-1] else (
+        f"; the best is try {right.index(max(right)) + 1}, {max(right)} of {counts[0][2]}")
 
 
 def lesson_of_cases(machine):
@@ -635,9 +657,9 @@ def lesson_of_cases(machine):
             paths = [pathlib.Path(name) / f"{each}.txt" for each in students]
             _, lines, _ = grade(FUNCTIONS, str(number), *paths)
             same(f"the grades of exercise {number}", [
-                f"{path}: {HANDED_IN[path.stem][2]}, the latest of {at + 1} "
-                f"{'try' if at == 0 else 'tries'}" for at, path in enumerate(paths)],
-                [line for line in lines if not line.startswith(" ")])
+                f"{path} (Ada): {HANDED_IN[path.stem][2]}, the latest of {at + 1} "
+                f"{'try' if at == 0 else 'tries'}{better_before(students, at)}"
+                for at, path in enumerate(paths)], [line for line in lines if not line.startswith(" ")])
     machine.leave_fields()
     machine.keys("q")
 
@@ -669,24 +691,30 @@ def lesson_on_a_phone(machine):
     with tempfile.TemporaryDirectory() as name:
         path, link = hand_in(machine, name)
         wanted = "right, 3 of 3 cases, the latest of 2 tries"
-        same("its file", (0, [f"{path}: {wanted}"]), grade(FUNCTIONS, "1", path)[:2])
+        same("its file", (0, [f"{path} (Ada): {wanted}"]), grade(FUNCTIONS, "1", path)[:2])
         path.write_text(f"{link}\n")
-        same("its link, in a file and alone", (0, [f"{path}: {wanted}", f"the link: {wanted}"]),
+        same("its link, in a file and alone", (0, [f"{path} (Ada): {wanted}", f"the link (Ada): {wanted}"]),
              grade(FUNCTIONS, "1", path, link)[:2])
         cut = link.replace("handed-in=", "handed-in=!")
         same("a link that is damaged", [1, [
             "the link: not read: The link is damaged: its program can't be read."]],
             list(grade(FUNCTIONS, "1", cut)[:2]))
     machine.choose("three")
-    kept = page.ask("localStorage['rrs.lessons']")
+    one_s_own = "JSON.stringify(rrs.work.keeping.all('lessons').filter((each) => !each.handedIn))"
+    kept = page.ask(one_s_own)
     page.ask(f"location.hash = {js(link.split('#', 1)[1] + '&exercise=3')}")
     page.wait("!document.getElementById('lesson').hidden")
-    same("what one sees who opens the link", ["5 of 5 solved, as it was handed in", 3, True], [
+    same("what one sees who opens the link", ["5 of 5 solved, as it was handed in by Ada", 3, True], [
         page.text("#lesson-solved"), page.ask("rrs.lesson.number"),
         page.ask(f"rrs.session.text === {js(SOLVED[3])}")])
     write_and_judge(machine, SOLVED[3] + "# seen\n")
     same("and that it is not kept in the place of one's own", True, page.ask(
-        f"localStorage['rrs.lessons'] === {js(kept)}"))
+        f"{one_s_own} === {js(kept)}"))
+    page.ask("rrs.work.keep(); rrs.closeLesson()")
+    [*_, own] = [each for each in page.ask(KEPT) if each.endswith("as it was handed in")]
+    same("and that it stays beside it", [f"Lesson: {TITLE}, as it was handed in", SOLVED[3] + "# seen\n"], [
+        own, page.ask("(async () => { const { id } = rrs.work.keeping.all('lessons')[0];"
+                      " await rrs.openKeptLesson(id, 3); return rrs.session.text; })()")])
 
 
 def first_lesson(machine):
@@ -704,8 +732,8 @@ def first_lesson(machine):
         page.wait("$('lesson-title').textContent === 'My lesson'")
         write_text(machine, READ + " mv t0, a0\n ecall\n add a0, a0, t0\n" + PRINT)
         page.wait("$('lesson-solved').textContent === '1 of 2 solved'")
-        handed = hand_in(machine, name, "My-lesson.handed-in.txt")[0]
-        same("its grade", (0, [f"{handed}: right, 2 of 2 cases, the latest of 1 try"]),
+        handed = hand_in(machine, name, "My-lesson.Ada.handed-in.txt")[0]
+        same("its grade", (0, [f"{handed} (Ada): right, 2 of 2 cases, the latest of 1 try"]),
              grade(path, "1", handed)[:2])
     machine.keys("q")
 
@@ -726,6 +754,7 @@ def start_text(machine, text):
               windowsVirtualKeyCode=65, commands=["selectAll"])
     page.type(text)
     page.press("Enter", "Ctrl")
+    page.press("Escape")
     page.wait("document.getElementById('editor').hidden")
 
 

@@ -108,9 +108,16 @@ class Machine:
         self.page.ask("document.getElementById('settings').open = true")
 
     def escape(self):
-        """Leaves a dialog, or the editor, by its key."""
+        """Leaves a dialog, or the editor, by its key. The editor may lie below a dialog."""
+        was_dialog = self.page.ask("document.querySelector('dialog[open]') !== null")
         self.page.press("Escape")
-        self.wait_closed()
+        if was_dialog:
+            self.page.wait("document.querySelector('dialog[open]') === null"
+                           " && !document.activeElement.closest('dialog')")
+            self.leave_fields()
+            self.page.wait_drawn()
+        else:
+            self.wait_closed()
 
     def wait_closed(self):
         """Waits until no dialog is open, and no editor. The focus leaves a dialog when the page is
@@ -182,6 +189,7 @@ FORGET = """try {
     for (const key of Object.keys(localStorage)) {
         if (key.startsWith("rrs.")) localStorage.removeItem(key);
     }
+    sessionStorage.removeItem("rrs.latest");
 } catch {}"""
 
 

@@ -99,11 +99,6 @@ const MISTAKES = [
   [".space ¦100000000", "value out of range: .space takes 0 to 67108864 bytes"],
   ["¦.rept 2\nnop", "there is no .endm or .endr of this macro or repetition"],
   ["¦.macro m\nnop\n", "there is no .endm or .endr of this macro or repetition"],
-  ["¦.macro m(%a)\nli a0, %a\n.end_macro\nm(5)", "there is no .endm or .endr of this macro or "
-    + String.raw`repetition; as RARS writes it: here .macro name x begins it, \x is its parameter, and `
-    + ".endm ends it"],
-  [".macro m ¦%a\nli a0, \\a\n.endm\nnop", "a name is wanted here; as RARS writes it: here .macro name "
-    + String.raw`x begins it, \x is its parameter, and .endm ends it`],
   [".macro m a\nli a0, ¦\\a\n.endm\nm 08", "not a number: 08; one that begins with 0 is octal"],
 ];
 

@@ -121,6 +121,67 @@ async function sleeps(report, page, kit, clock, board) {
   report.same("behind it", ["", "It was powered off, with status 0.", false, false], stands(board));
 }
 
+/* What a board says that comes to no handler, or traps in it, by its image. */
+async function traps(report, page, kit, clock, board) {
+  const nowhere = "A trap went to where mtvec points, 0x00000000, and no memory is there: ";
+  const compressed = " It is a compressed one, of extension C, which this hart has not: build the image "
+    + "for rv32ima.";
+  const images = [
+    // c.li a0, 0; c.addi a0, 1
+    [Uint8Array.of(0x01, 0x45, 0x05, 0x05), `${nowhere}illegal instruction at 0x80000000.${compressed}`],
+    [new Uint8Array(8), `${nowhere}illegal instruction at 0x80000000.`],
+    ["nop; ecall", `${nowhere}ecall at 0x80000004.`],
+    ["li t0, 0x40000000; lw t1, 0(t0)", `${nowhere}load fault at 0x80000004.`],
+    ["la t0, 1f; csrw mtvec, t0; ecall; .align 2; 1: .word 0",
+      "It traps for ever, in its own handler: illegal instruction at 0x80000010."],
+    ["la t0, 1f; csrw mtvec, t0; ecall; .align 2; 1: .word 0x45014501",
+      `It traps for ever, in its own handler: illegal instruction at 0x80000010.${compressed}`],
+  ];
+  for (const [image, told] of images) {
+    clock.tasks.length = 0;
+    if (typeof image === "string") open(page, kit, board, image);
+    else board.open("it", image);
+    board.run();
+    while (board.ending === "" && clock.tasks.length > 0) await clock.next();
+    report.same("why it does not go on", ["", told, false, false], stands(board));
+  }
+  // what retires at times is no such trap
+  clock.tasks.length = 0;
+  open(page, kit, board, "la t0, 1f; csrw mtvec, t0; ecall; .align 2; 1: mret");
+  board.run();
+  await clock.next();
+  report.same("a handler that returns", ["", "", true, false], stands(board));
+  board.pause();
+  open(page, kit, board, `li s0, 0x10000000; 1: lbu t0, 5(s0); andi t0, t0, 1; beqz t0, 1b; ecall`);
+  board.type(typed("x"));
+  board.run();
+  while (board.ending === "" && clock.tasks.length > 0) await clock.next();
+  report.same("behind what was typed the first trap is not told", `${nowhere.slice(0, -2)}.`, board.ending);
+}
+
+async function breakpoints(report, page, kit, clock, board) {
+  clock.tasks.length = 0;
+  open(page, kit, board, ECHO);
+  board.stops = new Set([0x80000020, 0x8000002c]);
+  board.run();
+  report.same("before the echo", ["hi\n", "", false, false, true, 0x80000020],
+    [...stands(board), board.isAtStop, board.kit.pc]);
+  const { steps } = board;
+  board.step();
+  report.same("a step from there", [steps + 1, 0x80000024, false],
+    [board.steps, board.kit.pc, board.isAtStop]);
+  board.run();
+  report.same("and around", [0x80000020, true], [board.kit.pc, board.isAtStop]);
+  board.type(typed("q"));
+  board.run();
+  board.run();
+  report.same("at the other", [0x8000002c, true, ""], [board.kit.pc, board.isAtStop, board.ending]);
+  board.stops = new Set();
+  board.run();
+  while (board.ending === "" && clock.tasks.length > 0) await clock.next();
+  report.same("without them", "It was powered off, with status 7.", board.ending);
+}
+
 /* An executable of one segment, which is these bytes: they stand in RAM, and their virtual address
  * is nowhere. The hart starts in the first, by its virtual address. */
 function executableOf(page, bytes) {
@@ -207,6 +268,8 @@ async function tryBoards(report, page, kit, clock) {
   await echoes(report, page, kit, clock, board);
   await waits(report, page, kit, clock, board);
   await sleeps(report, page, kit, clock, board);
+  await traps(report, page, kit, clock, board);
+  await breakpoints(report, page, kit, clock, board);
   refuses(report, page, board);
   loads(report, page, kit, board);
   trees(report, page);

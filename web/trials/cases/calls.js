@@ -173,7 +173,8 @@ function tables(report, page) {
   report.same("the numbers of the calls", [
     [29, 57, 62, 63, 64, 66, 79, 80, 93, 94, 160, 169, 172, 174, 175, 176, 177, 214, 278, 291,
       403],
-    [1, 4, 5, 8, 9, 10, 11, 12, 34, 35, 36, 93], [1, 4, 9, 10, 11, 17, 34]],
+    [1, 4, 5, 8, 9, 10, 11, 12, 17, 30, 32, 34, 35, 36, 40, 41, 42, 93],
+    [1, 4, 9, 10, 11, 17, 34]],
   [linux, ofRars, ofVenus].map(numbers));
   report.same("the registers with the number", [A7, A7, A0],
     [linux, ofRars, ofVenus].map(({ number }) => number));

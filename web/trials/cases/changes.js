@@ -1,6 +1,7 @@
 "use strict";
 
-// What a person changes by hand, the calls that a program is in, and names of registers.
+// What a person changes by hand, the calls that a program is in, and names of registers; the lines of
+// a text that is changed, and what is kept.
 
 const { digest, machineWith } = require("./machine.js");
 const { opened } = require("./sessions.js");
@@ -130,12 +131,99 @@ function keptBreakpoints(report, over) {
   const session = opened(over, "13 a: 13 13 b: 13 13 c: 13");
   for (const index of [0, 2, 4, 5]) session.toggleBreakpoint(index);
   const stops = () => [...session.stops.entries()].filter(([, stop]) => stop).map(([at]) => at);
-  session.open({ name: "p", text: "13 13 13 a: 13 13 d: 13 13 c: 13", keepsStops: true });
+  session.open({ name: "p", text: "13 13 13 a: 13 13 d: 13 13 c: 13", lineNow: () => 0 });
   report.same("breakpoints behind their labels", [0, 4, 6, 7], stops());
-  session.open({ name: "p", text: "13", keepsStops: true });
+  session.open({ name: "p", text: "13", lineNow: () => 0 });
   report.same("with no label of theirs", [0, 4, 6, 7], stops());
   session.open({ name: "p", text: "13" });
   report.same("of another program", [], stops());
+}
+
+/* Where the lines of a text come from that was changed at one place. */
+function linesThatMove(report, page) {
+  report.cases("where lines come from", [
+    [["a\nb", "a\nb"], [1, 2]],
+    [["a\nb", "a\n\nb"], [1, 0, 2]],
+    [["a\nb", "\na\nb"], [0, 1, 2]],
+    [["a\nb", "a1\nb"], [1, 2]],
+    [["ab\nc", "a\nb\nc"], [1, 0, 2]],
+    [["a\nb\nc", "ab\nc"], [1, 3]],
+    [["a\nb\nc", "a\nc"], [1, 3]],
+    [["a\nb", "x\ny\na\nb"], [0, 0, 1, 2]],
+    [["a\na", "a\na\na"], [1, 2, 0]],
+    [["a\nb\nc", "a\nx\nc"], [1, 2, 3]],
+  ], ([before, after]) =>
+    page.originsAfter(before.split("\n").map((_, at) => at + 1), before, after));
+}
+
+/* What two tabs did of an exercise, as one. */
+function merging(report, page) {
+  const merged = (kept, own) => {
+    const [{ tried, tries, isSolved }] = page.mergedExercises([kept], [own]);
+    return [tried?.text, tries.map(({ text }) => text).join(" "), isSolved];
+  };
+  const tried = (text, at) => ({ text, at });
+  report.cases("what is merged", [
+    [[{ tried: tried("k", 5), tries: [tried("a", 1)], isSolved: true },
+      { tried: tried("o", 3), tries: [tried("a", 1), tried("b", 2)] }], ["k", "a b", true]],
+    [[{ tried: tried("k", 3), tries: [tried("c", 3)] },
+      { tried: tried("o", 5), tries: [tried("a", 1), tried("d", 4)], isSolved: true }], ["o", "a c d", true]],
+    [[{ tries: [] }, { tried: tried("o") }], ["o", "", false]],
+    [[{ tried: tried("k", 1), tries: [] }, {}], ["k", "", false]],
+    [[{ tries: [tried("a", 1)] }, { tries: [tried("a", 2), tried("b", 3), tried("a", 4)] }],
+      [undefined, "a b a", false]],
+  ], ([kept, own]) => merged(kept, own));
+  const many = Array.from({ length: 60 }, (_, at) => ({ ...tried(`${at}`, at), right: at === 3 ? 2 : 1 }));
+  report.same("how many tries are kept: the best one, and the latest", [50, "3", "11", "59"], (([{ tries }]) =>
+    [tries.length, tries[0].text, tries[1].text, tries.at(-1).text])(page.mergedExercises([], [{ tries: many }])));
+  report.same("exercises that are kept alone stay", [2, "k"], ((all) => [all.length, all[1].tried.text])(
+    page.mergedExercises([{ tries: [] }, { tried: tried("k", 1), tries: [] }], [])));
+}
+
+/* A storage with room for so many letters, as a browser has it. */
+function storageOf(page, most) {
+  const storage = new page.ShortStorage([["other", "stays"]]);
+  storage.setItem = (key, text) => {
+    const others = [...storage].filter(([each]) => each !== key);
+    const size = others.reduce((sum, [, { length }]) => sum + length, text.length);
+    if (size > most) throw new Error("full");
+    storage.set(key, text);
+  };
+  return storage;
+}
+
+function keeping(report, page) {
+  const storage = storageOf(page, 4000);
+  const kept = new page.Keeping(() => storage);
+  const names = () => kept.all("programs").map(({ name }) => name).join();
+  const entry = (name, text = "nop") => ({ name, text, language: "assembly" });
+  kept.put("programs", "1", entry("a"));
+  kept.put("programs", "2", entry("b"));
+  kept.put("programs", "1", entry("a", "li a0, 1"));
+  report.same("the latest first, each once", "a,b", names());
+  report.same("a name that is free", ["c", "a 2", "b 2"], ["c", "a", "b"].map((name) =>
+    kept.freeName(name)));
+  report.same("what there is no room for", [0, "a,b"], [
+    kept.put("programs", "3", entry("c", "x".repeat(4000))), names()]);
+  storage.set("rrs.program.4", "no JSON");
+  storage.set("rrs.program.5", '{"name":"no text"}');
+  report.same("what is damaged", "a,b", names());
+  const exported = kept.exported();
+  kept.remove("programs", "1");
+  report.same("one is taken away", "b", names());
+  report.same("what is read from a file", [{ programs: 2, lessons: 0, lost: 0 }, "a,b"], [
+    kept.imported(exported), names()]);
+  kept.put("programs", "1", entry("a", "other"));
+  kept.imported(exported);
+  report.same("of a program that is another here", [["a 2", "li a0, 1"], ["a", "other"], ["b", "nop"]],
+    kept.all("programs").map(({ name, text }) => [name, text]).sort());
+  report.cases("a file of it that is none", [["", null], ["{}", null], ['{"rrs kept":2}', null],
+    ['{"rrs kept":1,"programs":5}', null]], (text) => kept.imported(text));
+  kept.clear();
+  report.same("what is left of all", [["other", "stays"]], [...storage]);
+  storage.set("other", "x".repeat(4000));
+  report.same("a storage that is full, and one that is none", [true, false], [
+    new page.Keeping(() => storage).isLasting, new page.Keeping(() => { throw new Error("none"); }).isLasting]);
 }
 
 function frames(report, page, kit) {
@@ -237,6 +325,10 @@ async function tryChanges(report, page, kit, clock) {
   changesOfSessions(report, over);
   await sinceTheLastStop(report, over);
   keptBreakpoints(report, over);
+  linesThatMove(report, page);
+  report.begin("keeping");
+  merging(report, page);
+  keeping(report, page);
   report.begin("frames");
   frames(report, page, kit);
 }

@@ -46,7 +46,7 @@ function lessons(report, page) {
     [words.title, plain(words.about), words.cases[0].output, words.cases[0].registers, words.calls,
       words.size,
       words.hasStack, words.language, words.program]);
-  const none = "the exercise has neither an output nor a register that is expected";
+  const none = "the exercise expects nothing: no output, no register and no call";
   report.cases("what is wrong with a lesson", [
     ["lesson: a", "The lesson has no exercise."], ["lesson: a\nexercise: b", `Line 2: ${none}`],
     ["lesson: a\nexercise: b\nprogram:\nnop\nexercise: c\noutput: \"\"", `Line 2: ${none}`],
@@ -60,7 +60,7 @@ function lessons(report, page) {
     ["exercise: b\nregister: a0 = x", "Line 2: a register and a number stand here, as a0 = 31"],
     ["exercise: b\ncalls: dos", "Line 2: the calls are linux, rars, venus, machine"],
     ["exercise: b\nlanguage: c", "Line 2: the language is assembly or words"],
-    ["exercise: b\nmemory: 5", "Line 2: the memory is one of 64 KiB, 256 KiB, 1 MiB, or "
+    ["exercise: b\nmemory: 5", "Line 2: the memory is one of 64 KiB, 256 KiB, 1 MiB, RARS, or "
       + "label = numbers"],
     ["exercise: b\nstack: 5", "Line 2: the stack can start at the end"],
     ["lesson: a\ncalls: rars",
@@ -136,6 +136,8 @@ register: a0 = 3`).exercises[0];
       + 'name = "Ada"'],
     ["limit: 0", "the limit is a number of steps up to 100,000,000"],
     ["limit: many", "the limit is a number of steps up to 100,000,000"],
+    ...["time limit: 500", "step limit: 500", "steps: 500"].map((line) => [line, `"${line.slice(0, -5)}"`
+      + ' is almost "limit:", which begins its line, in small letters. A text begins with another word']),
     ["Case: one", '"Case" is almost "case:", which begins its line, in small letters. A text begins '
       + "with another word"],
     ...["hidden", "Hidden case", "case hidden", "hidden-case", "hiden case"].map((word) =>
@@ -174,7 +176,7 @@ const LOST = [
   ["case: a\nregister: a0 = 1\nmemory: n = 0\nmemory: n = 1", 5, isTwice("the memory at n", 4)],
   ["output: \"\"\ninput: \"1\"\noutput: \"2\"", 4, isTwice("the output", 2)],
   ["input: \"1\"\noutput: \"\"\ninput: \"2\"", 4, isTwice("the input", 2)],
-  ["register: a0 = 1\nlimit: 5\ncase: a\nlimit: 9", 5, isTwice("the limit of all cases", 3)],
+  ["register: a0 = 1\nlimit: 5\nlimit: 9\ncase: a", 4, isTwice("the limit of all cases", 3)],
   ["calls: rars\ncalls: venus\nregister: a0 = 1", 3, isTwice("the calls", 2)],
   ["language: words\nlanguage: words\nregister: a0 = 1", 3, isTwice("the language", 2)],
   ["memory: 64 KiB\nmemory: 1 MiB\nregister: a0 = 1", 3, isTwice("the memory", 2)],
@@ -255,12 +257,12 @@ function firstMemory(report, page, kit) {
 function told(report, page) {
   const lines = page.LINES_TOLD.map(([line]) => line);
   report.same("the words of the lines that are told",
-    ["lesson", "exercise", "program", ...Object.keys(page.SAYS)].sort(),
+    ["lesson", "exercise", "given", "program", ...Object.keys(page.SAYS)].sort(),
     [...new Set(lines.map((line) => line.split(":")[0]))].sort());
   const { exercises: [exercise] } = page.parseLesson(lines.join("\n"));
   const { title, calls, language, size, hasStack, limit, hints, cases: [one] } = exercise;
   report.same("what they say", [
-    "TITLE", "rars", "words", 1 << 18, true, 5000, ["TEXT"], "31\n", "5\n", [[10, 31]], 12,
+    "TITLE", "rars", "assembly", 1 << 18, true, 5000, ["TEXT"], "31\n", "5\n", [[10, 31]], 12,
   ], [title, calls, language, size, hasStack, limit, hints, one.output, one.input, one.registers,
     one.memory[0].bytes.length]);
   const { exercises: [bare] } = page.parseLesson("exercise: e\nregister: a0 = 1");
@@ -289,6 +291,12 @@ function verdicts(report, page) {
     [{ cases: [{}], told: [{ ...misses("a."), given: "b.", isHidden: true }] }, false,
       ["end", "0 of 1 cases are right."]],
     [{ cases: [{}], told: [{ ...misses(), given: "b." }] }, false, ["done", "Solved."]],
+    [{ cases: two, told: [misses(), misses("a")], tries: [{ right: 2, of: 2 }, { right: 1, of: 2 }] },
+      false, ["end", "1 of 2 cases are right. The best of your 2 tries has 2 of 2 right."]],
+    [{ cases: two, told: [misses(), misses("a")], tries: [{ right: 1, of: 2 }, { right: 1, of: 2 }] },
+      false, ["end", "1 of 2 cases are right."]],
+    [{ cases: two, told: Object.assign([misses("x"), misses("x")], { guards: ["No mul.", "No div."] }) },
+      false, ["end", "No mul. No div."]],
   ]) {
     report.same("a verdict", wanted, page.verdictOf(exercise, isChecking, page.NAMES.abi));
   }

@@ -6,9 +6,9 @@ const fs = require("node:fs");
 const path = require("node:path");
 
 const SCRIPTS = [
-  "kit", "terminal", "records", "actions", "traps", "machine", "linux", "calls", "frames", "convention",
-  "assembly", "colours", "program", "executable", "lesson", "examples", "wording", "board", "keeping",
-  "session", "views", "editor", "screen",
+  "kit", "terminal", "records", "actions", "traps", "machine", "linux", "rars", "calls", "frames",
+  "convention", "assembly", "colours", "program", "executable", "lesson", "judging", "grading",
+  "examples", "wording", "board", "keeping", "session", "views", "editor", "screen",
 ];
 const DEFINED = /^(?:const|class|function|async function) ([A-Za-z_]\w*)/gm;
 

@@ -234,7 +234,7 @@ const KEYS = {
   details: "i", unit: "m", around: "w",
   address: "a", memoryUp: "[", memoryDown: "]", calls: "f", console: "c",
   endInput: "z", examples: "y", preset: "v",
-  edit: "e", open: "o", save: "W", link: "l", lesson: "j", check: "C", hint: "H", handIn: "D",
+  edit: "e", create: "N", kept: "K", open: "o", save: "W", link: "l", lesson: "j", check: "C", hint: "H", handIn: "D",
   closeLesson: "q",
   theme: "d", keys: "?",
 };
