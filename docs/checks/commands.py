@@ -1,4 +1,4 @@
-"""The commands of the pages, tried in a fresh clone."""
+"""The commands of the pages, tried in a fresh clone, or in a room of its own."""
 
 import os
 import shutil
@@ -7,6 +7,7 @@ import tempfile
 from pathlib import Path
 
 EACH = """
+[ ! -e "$KEPT" ] || PATH=$(cat "$KEPT")
 for command in "$@"; do
     printf '$ %s\\n' "$command"
     eval "$command"
@@ -14,6 +15,7 @@ for command in "$@"; do
     echo "== status $status"
     [ "$status" = 0 ] || failed=1
 done
+[ -z "$KEEPS" ] || printf '%s' "$PATH" >"$KEPT"
 exit "${failed:-0}"
 """
 
@@ -53,25 +55,43 @@ def fresh_clone(root, files, folder):
     return clone
 
 
-def run_block(page, block, clone):
+def run_block(page, block, enters, clone, environment):
     """Runs the commands of a block in one bash, from the top of the clone, and says whether the
-    status of each was 0."""
+    status of each was 0. The path of a block that builds rrs is that of the blocks after it."""
     print(f"{page.name}:{block.line}", flush=True)
-    words = ["bash", "-c", EACH, "bash", *commands_of(block)]
-    environment = {**os.environ, "PAGER": "cat"}
-    return subprocess.run(words, cwd=clone, stdin=subprocess.DEVNULL, stderr=subprocess.STDOUT,
-                          env=environment).returncode == 0
+    words = [*enters, "bash", "-c", EACH, "bash", *commands_of(block)]
+    environment = {**environment, "PAGER": "cat", "KEPT": f"{clone}.path",
+                   "KEEPS": "yes" if block.marker == "builds rrs" else ""}
+    return subprocess.run(words, cwd=None if enters else clone, stdin=subprocess.DEVNULL,
+                          stderr=subprocess.STDOUT, env=environment).returncode == 0
+
+
+def run_blocks(pages, left_out, *where):
+    """Runs each block of commands but those with a marker that is left out. Returns whether all went
+    well."""
+    all_well = True
+    for page in pages:
+        for block in page.blocks:
+            if block.language == "sh" and block.marker in left_out:
+                print(f"{page.name}:{block.line} {block.marker}: {block.argument}".rstrip(": "))
+            elif block.language == "sh":
+                all_well &= run_block(page, block, *where)
+    return all_well
 
 
 def try_commands(root, pages, files):
-    """Runs each block of commands that no marker leaves out. Returns whether all went well."""
-    all_well = True
+    """Runs the commands of pages in a fresh clone, with what this machine has."""
     with tempfile.TemporaryDirectory() as folder:
         clone = fresh_clone(root, files, folder)
-        for page in pages:
-            for block in page.blocks:
-                if block.language == "sh" and block.marker == "not run":
-                    print(f"{page.name}:{block.line} not run: {block.argument}")
-                elif block.language == "sh":
-                    all_well &= run_block(page, block, clone)
-    return all_well
+        return run_blocks(pages, ["not run"], [], clone, os.environ)
+
+
+def try_commands_in(room, has_rrs, root, pages):
+    """Runs them in a clone in a room, the root folder of a Debian, with what is there alone: the
+    words that build rrs are left out where it has rrs."""
+    subprocess.run(["git", "clone", "--quiet", root, Path(room) / "root/rrs"], check=True)
+    enters = ["chroot", room, "env", "-C", "/root/rrs"]
+    environment = {"PATH": "/usr/local/bin:/usr/bin:/bin:/usr/sbin:/sbin", "HOME": "/root",
+                   "DEBIAN_FRONTEND": "noninteractive"}
+    left_out = ["not run"] + ["builds rrs"] * has_rrs
+    return run_blocks(pages, left_out, enters, "/root/rrs", environment)

@@ -7,7 +7,7 @@ from dataclasses import dataclass
 from surface import BELOW
 
 FENCE = re.compile(r"^(\s*)```+\s*(\w*)")
-MARKER = re.compile(r"^\s*<!--\s*(from|example|not run)\b:?\s*(.*?)\s*-->\s*$")
+MARKER = re.compile(r"^\s*<!--\s*(from|example|not run|builds rrs)\b:?\s*(.*?)\s*-->\s*$")
 LEFT_OUT = re.compile(r"^\s*(//|--|#|/\*)?\s*\.\.\s*(\*/)?$")
 LINK = re.compile(r"(?<!\\)\[[^\]]*\]\(\s*<?([^)\s>]+)>?[^)]*\)|^\[[^\]]+\]:\s*(\S+)", re.M)
 LONGEST = 300

@@ -99,6 +99,11 @@ COMMANDS = [
      "$ cat crates/one/out/made\nmade\n== status 0\n$ find crates -name lib.rt ! -newermt 2002-01-01\n"
      "crates/one/src/lib.rt\n== status 0\n$ pwd | grep -o clone\nclone\n== status 0\n"),
     ("<!-- not run: it fails -->\n```sh\nfalse\n```\n\n```text\nfalse\n```\n", 0, ""),
+    # the path of a block that builds rrs stays
+    ("<!-- builds rrs -->\n```sh\nPATH=/none:$PATH\n```\n\n```sh\necho ${PATH%%:*}\nPATH=/other:$PATH\n```\n\n"
+     "```sh\necho ${PATH%%:*}\n```\n", 0,
+     "$ PATH=/none:$PATH\n== status 0\nanother block\n$ echo ${PATH%%:*}\n/none\n== status 0\n"
+     "$ PATH=/other:$PATH\n== status 0\nanother block\n$ echo ${PATH%%:*}\n/none\n== status 0\n"),
 ]
 
 # a file, what stands in it, what stands there instead, and what --changed prints of that before it counts
