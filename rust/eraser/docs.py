@@ -10,21 +10,22 @@ EXAMPLES = re.findall(
     (Path(__file__).resolve().parent.parent / "examples.md").read_text(),
     re.M | re.S,
 )
-# How rrs-kit passes a crate on.
+# How rrs-kit passes a crate on, by its items: Rust 1.85 refuses another name of the crate itself.
 IN_KIT = {
     "rrs_memory": "pub use rrs_memory::*;",
     "rrs_instruction": "pub use rrs_instruction::*;",
     "rrs_lib": "pub use rrs_lib::*;",
-    "rrs_fast": "pub use rrs_fast as fast;",
-    "rrs_encode": "pub use rrs_encode as encode;",
-    "rrs_extra": "pub use rrs_extra as extra;",
-    "rrs_trace": "pub use rrs_trace as trace;",
-    "rrs_elf": "pub use rrs_elf as elf;",
-    "rrs_history": "pub mod gdb { pub use rrs_history as history; }",
+    "rrs_fast": "pub mod fast { pub use rrs_fast::*; }",
+    "rrs_encode": "pub mod encode { pub use rrs_encode::*; }",
+    "rrs_extra": "pub mod extra { pub use rrs_extra::*; }",
+    "rrs_trace": "pub mod trace { pub use rrs_trace::*; }",
+    "rrs_elf": "pub mod elf { pub use rrs_elf::*; }",
+    "rrs_history": "pub mod gdb { pub mod history { pub use rrs_history::*; } }",
     "rrs_machine": "pub mod machine { pub use rrs_machine::*; }",
-    "rrs_board": "pub mod machine { pub use rrs_board as board; }",
+    "rrs_board": "pub mod machine { pub mod board { pub use rrs_board::*; } }",
     "rrs_asm": "pub mod asm { pub use rrs_asm::*; }",
-    "rrs_asm_output": "pub mod asm { pub use {rrs_asm::*, rrs_asm_output as assembly}; }",
+    "rrs_asm_output": "pub mod asm { pub use rrs_asm::*; "
+    "pub mod assembly { pub use rrs_asm_output::*; } }",
 }
 
 CLAIM = """\
