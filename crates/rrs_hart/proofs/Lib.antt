@@ -1,3 +1,5 @@
 mod AnyBytes
 pub mod OneLayer
 mod HartSteps
+mod Chains
+mod HartRuns

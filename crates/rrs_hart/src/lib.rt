@@ -1,7 +1,8 @@
 //! One hart with a profile: the kit's machine, and what the layers of the profile add to it.
 //!
-//! [step_hart] makes one step of a hart whose [HartProfile] says which layers it has. Where no layer
-//! takes part, the step is the kit's own. `specs/Harts.antt` says what a step is.
+//! [step_hart] makes one step of a hart whose [HartProfile] says which layers it has, and [run_hart]
+//! a run of them. Where no layer takes part, the step is the kit's own. `specs/Harts.antt` says what a
+//! step and a run are.
 //! [execute_atomic] executes an instruction of extension A (`specs/Atomics.antt`), and
 //! [access_by_bytes] a load or a store at any address (`specs/Anywhere.antt`).
 
@@ -10,9 +11,11 @@
 mod atomics;
 mod bytes;
 mod profile;
+mod runs;
 mod step;
 
 pub use atomics::execute_atomic;
 pub use bytes::{ByteAccess, access_by_bytes};
 pub use profile::{HartProfile, decode_in};
+pub use runs::run_hart;
 pub use step::step_hart;

@@ -1,8 +1,8 @@
-//! A step of a hart with a profile.
+//! A step of a hart with a profile, and a run.
 
-use rrs_hart::{HartProfile, step_hart};
+use rrs_hart::{HartProfile, run_hart, step_hart};
 use rrs_lib::HartState;
-use rrs_lib::instruction_executor::{InstructionException, InstructionExecutor};
+use rrs_lib::instruction_executor::{InstructionException, InstructionExecutor, RunEnd};
 use rrs_lib::memories::VecMemory;
 use std::alloc::{AllocError, Global};
 use std::test::Fail;
@@ -122,5 +122,121 @@ fn a_step_goes_by_the_profile(rt: HostRuntime) -> Result<(), Fail> {
         raised = raised && left == (Err(exception), 0, 0, SAME, None);
     }
     assert_eq!(rt; (done, raised), (true, true));
+    Ok(())
+}
+
+/// A counter to which 3 is added four times, a load and a store at misaligned addresses behind it,
+/// a reservation of it, and a call: as GNU `as` has it. The counter is at 0x40.
+fn layers(alloc: Global) -> Result<VecMemory, AllocError> {
+    let words = vec![in alloc;
+        0x0400_0313, //    addi x6, x0, 0x40
+        0x0030_0393, //    addi x7, x0, 3
+        0x0040_0413, //    addi x8, x0, 4
+        0x0073_24af, // 1: amoadd.w x9, x7, (x6)
+        0xfff4_0413, //    addi x8, x8, -1
+        0xfe04_1ce3, //    bne x8, x0, 1b
+        0x0063_2503, //    lw x10, 6(x6)
+        0x00a3_24a3, //    sw x10, 9(x6)
+        0x1003_25af, //    lr.w x11, (x6)
+        0x1873_262f, //    sc.w x12, x7, (x6)
+        0x0000_0073, //    ecall
+        0, 0, 0, 0, 0,
+        7, 0x4433_2211, 0x8877_6655, 0xccbb_aa99
+    ]?;
+    Ok(VecMemory::new(words))
+}
+
+/// What a run in two legs, the first of so many steps, ends with each time, and the pc between.
+type Legs = (RunEnd, u32, RunEnd);
+
+/// What is left of the program: the pc, x9 to x12, and the words from the counter on.
+type After = (u32, (u32, u32, u32, u32), [u32; 4]);
+
+/// What `qemu-riscv32` leaves, as `layers.c` in `examples/exec/trials` prints it, at the call.
+const AFTER: After = (
+    40,
+    (16, 0x6655_4433, 19, 0),
+    [3, 0x4433_2211, 0x5544_3355, 0xccbb_aa66],
+);
+
+/// What is left in a hart and a memory.
+fn after(memory: &VecMemory, hart: &HartState) -> After {
+    let mut words = [0; 4];
+    for at in 0..4usize {
+        words[at] = memory.mem.get(16 + at).copied().unwrap_or(0);
+    }
+    let x = &hart.registers;
+    (hart.pc, (x[9], x[10], x[11], x[12]), words)
+}
+
+/// Has the program run in two legs, of which the second has a limit that it does not reach.
+fn run_in_legs(
+    alloc: Global,
+    profile: HartProfile,
+    first: u64,
+) -> Result<(Legs, After), AllocError> {
+    let mut memory = layers(alloc)?;
+    let mut hart = HartState::new();
+    let mut reservation = None;
+    let mut executor = InstructionExecutor {
+        mem: &mut memory,
+        hart_state: &mut hart,
+    };
+    let before = run_hart(&mut executor, &mut reservation, profile, first);
+    let pc = executor.hart_state.pc;
+    let end = run_hart(&mut executor, &mut reservation, profile, 100);
+    Ok(((before, pc, end), after(&memory, &hart)))
+}
+
+#[test]
+fn a_run_goes_on_in_legs_with_its_reservation(rt: HostRuntime) -> Result<(), Fail> {
+    let (ends, left) = run_in_legs(rt.alloc(), ALL, 18)?;
+    let first = RunEnd {
+        steps: 18,
+        exception: None,
+    };
+    let last = RunEnd {
+        steps: 1,
+        exception: Some(InstructionException::EnvironmentCall(40)),
+    };
+    assert_eq!(rt; (ends, left), ((first, 36, last), AFTER));
+    Ok(())
+}
+
+#[test]
+fn a_run_ends_where_the_profile_has_no_layer(rt: HostRuntime) -> Result<(), Fail> {
+    let (ends, _) = run_in_legs(rt.alloc(), NONE, 18)?;
+    let exception = Some(InstructionException::IllegalInstruction(12, 0x0073_24af));
+    let (first, again) = (
+        RunEnd {
+            steps: 3,
+            exception,
+        },
+        RunEnd {
+            steps: 0,
+            exception,
+        },
+    );
+    assert_eq!(rt; ends, (first, 12, again));
+    Ok(())
+}
+
+#[test]
+fn single_steps_leave_what_the_run_does(rt: HostRuntime) -> Result<(), Fail> {
+    let mut memory = layers(rt.alloc())?;
+    let mut hart = HartState::new();
+    let mut reservation = None;
+    let mut executor = InstructionExecutor {
+        mem: &mut memory,
+        hart_state: &mut hart,
+    };
+    let mut done = true;
+    for _ in 0..19u64 {
+        done = done && step_hart(&mut executor, &mut reservation, ALL).is_ok();
+    }
+    let end = step_hart(&mut executor, &mut reservation, ALL);
+    let left = after(&memory, &hart);
+    let call = Err(InstructionException::EnvironmentCall(40));
+    assert_eq!(rt; (done, end, left), (true, call, AFTER));
     Ok(())
 }
