@@ -21,6 +21,7 @@ IN_KIT = {
     "rrs_trace": "pub mod trace { pub use rrs_trace::*; }",
     "rrs_elf": "pub mod elf { pub use rrs_elf::*; }",
     "rrs_history": "pub mod gdb { pub mod history { pub use rrs_history::*; } }",
+    "rrs_hart": "pub mod hart { pub use rrs_hart::*; }",
     "rrs_machine": "pub mod machine { pub use rrs_machine::*; }",
     "rrs_board": "pub mod machine { pub mod board { pub use rrs_board::*; } }",
     "rrs_asm": "pub mod asm { pub use rrs_asm::*; }",

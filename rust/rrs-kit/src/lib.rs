@@ -51,6 +51,15 @@ pub use rrs_trace as trace;
 #[doc(inline)]
 pub use rrs_elf as elf;
 
+/// A hart with layers beside the 48 rows: extension A, and misaligned accesses. Feature `hart`.
+#[cfg(feature = "hart")]
+pub mod hart {
+    #[doc(inline)]
+    pub use rrs_hart::*;
+    #[doc(inline)]
+    pub use rrs_words::LayerInstruction;
+}
+
 /// Machine mode: CSRs, traps and interrupts. Feature `machine`.
 #[cfg(feature = "machine")]
 pub mod machine {
