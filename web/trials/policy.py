@@ -316,8 +316,8 @@ def told(desk):
     asked = {event["params"]["request"]["url"].split("#")[0] for event in events
              if event["method"] == "Network.requestWillBeSent"}
     stored = desk.page_apart().page.ask(
-        "[document.cookie, Object.keys(localStorage).filter((key) => !key.startsWith('rrs.')),"
-        " sessionStorage.length]")
+        "[document.cookie, ...[localStorage, sessionStorage].map((storage) =>"
+        " Object.keys(storage).filter((key) => !key.startsWith('rrs.')))]")
     return [json.dumps(event["params"])[:300] for event in wrong], asked, stored
 
 
@@ -332,7 +332,7 @@ def quiet(desks):
               if not url.startswith(("data:", "about:", "http://127.0.0.1:"))
               and url != Subject.page.as_uri()]
     same("what else was asked for", [], others)
-    same("what else is stored", [["", [], 0]] * len(stored), list(stored))
+    same("what else is stored", [["", [], []]] * len(stored), list(stored))
 
 
 def joined_anywhere():
