@@ -228,6 +228,7 @@ def _function(name, result, *arguments):
 
 # The version of rrs.h that this module is written for: the numbers of RRS_VERSION.
 _VERSION = 0x00_02_00
+__version__ = ".".join(map(str, _VERSION.to_bytes(3, "big")))
 _version = _function("rrs_version", _u32)
 if _version() != _VERSION:
     raise ImportError(f"rrs.py is for version {_VERSION} of {_lib._name}, which has {_version()}")
