@@ -1,20 +1,22 @@
 #!/usr/bin/env python3
-"""Makes the pages of man of rrs and of each subcommand from what its help says.
+"""Makes the pages of man of rrs, of each subcommand and of other programs from what the help says.
 
-usage: man.py VERSION RRS FOLDER
+usage: man.py VERSION RRS FOLDER [PROGRAM ..]
 """
 import os
 import re
 import subprocess
 import sys
 
-VERSION, RRS, FOLDER = sys.argv[1:]
+VERSION, RRS, FOLDER, *PROGRAMS = sys.argv[1:]
 
 
 def help_of(*words):
-    """The usage, and the paragraphs behind it, of what the help says of a subcommand."""
-    said = subprocess.run([RRS, "help", *words], capture_output=True, text=True, check=True).stdout
-    usage, *paragraphs = said.rstrip("\n").split("\n\n")
+    """The usage of what a command says, and the paragraphs before and behind it."""
+    said = subprocess.run(words, capture_output=True, text=True, check=True).stdout
+    paragraphs = said.rstrip("\n").split("\n\n")
+    usage = next(text for text in paragraphs if text.startswith("usage: "))
+    paragraphs.remove(usage)
     lines = usage.removeprefix("usage: ").split("\n")
     return [re.sub(r"\s+", " ", line).strip() for line in lines], paragraphs
 
@@ -72,16 +74,23 @@ def write(name, *rest):
 
 
 def main():
-    usages, paragraphs = help_of()
+    usages, paragraphs = help_of(RRS, "help")
     listed = [line.split(None, 2) for line in paragraphs[0].split("\n")]
     names = {word: summary for _, word, summary in listed if word != "help"}
-    pages = ["rrs-" + word for word in names]
+    pages = ["rrs-" + word for word in names] + list(map(os.path.basename, PROGRAMS))
     write("rrs", "run, assemble and debug programs for RV32IM", joined(usages), paragraphs, pages)
     for word, summary in names.items():
-        usages, paragraphs = help_of(word)
+        usages, paragraphs = help_of(RRS, "help", word)
         usages = joined(usages) + ["rrs-run FILE LIMIT"] * (word == "run")
         others = ["rrs"] + [each for each in pages if each != "rrs-" + word]
         write("rrs-" + word, summary, usages, paragraphs, others)
+    for program in PROGRAMS:
+        usages, paragraphs = help_of(program, "--help")
+        # what it does begins the first paragraph
+        summary = re.match(r"[^.:]*", paragraphs[0])[0]
+        summary = summary[0].lower() + summary[1:].replace("\n", " ")
+        others = ["rrs"] + [each for each in pages if each != os.path.basename(program)]
+        write(os.path.basename(program), summary, joined(usages), paragraphs, others)
 
 
 main()
