@@ -7,5 +7,6 @@ pub mod Registers
 pub mod Ram
 pub mod Effects
 pub mod Boards
+pub mod Inputs
 pub mod Terminals
 pub mod WatchedBoards

@@ -1,5 +1,5 @@
-//! When a driver asks the host for input. That is its own choice: by the definition of the board a
-//! byte may arrive after any step.
+//! When a driver asks for input. That is its own choice: by the definition of the board a byte may
+//! arrive after any step.
 
 ghost use Rattle.std.specs.Prelude.{◌≡◌, ◌+◌, ◌<◌, ◌≤◌, false, not};
 ghost use Rattle.std.specs.Bool.{OnTrue, OnFalse};
@@ -11,8 +11,8 @@ const LOOKS: u32 = 1000;
 /// A driver's choice, and what it has seen.
 #[derive(Debug, PartialEq, Clone, Copy)]
 pub struct Asking {
-    /// Whether each `wfi` that waits asks too, and a read of no bytes says "nothing yet". Otherwise
-    /// it says that the input is at its end.
+    /// Whether each `wfi` that waits asks too, and an input that says it is at its end has nothing
+    /// yet. Otherwise that is the end of it.
     pub is_polled: bool,
     /// How many looks there were in a row.
     pub looks: u32,
@@ -23,9 +23,7 @@ pub struct Asking {
 impl Asking {
     /// A driver that has seen nothing.
     pub fn new(is_polled: bool) -> Asking
-        ensures seen { result.has_ended ≡ false }
-        ensures polled { result.is_polled ≡ is_polled }
-        ensures looks { result.looks ≡ 0 }
+        ensures { result ≡ record { is_polled = is_polled; looks = 0; has_ended = false } }
     {
         Asking {
             is_polled,
@@ -36,11 +34,10 @@ impl Asking {
 
     /// Counts a look, and says whether there were enough.
     pub fn count_look(&mut self) -> bool
-        ensures ended { self.new.has_ended ≡ self.old.has_ended }
-        ensures polled { self.new.is_polled ≡ self.old.is_polled }
-        ensures enough { OnTrue result ((1000 ≤ self.old.looks + 1) × (self.new.looks ≡ 0)) }
+        ensures enough { OnTrue result ((1000 ≤ self.old.looks + 1)
+            × (self.new ≡ record self.old { looks = 0 })) }
         ensures counted { OnFalse result ((self.old.looks + 1 < 1000)
-            × (self.new.looks ≡ self.old.looks + 1)) }
+            × (self.new ≡ record self.old { looks = self.old.looks + 1 })) }
     {
         self.looks = self.looks.saturating_add(1);
         if self.looks < LOOKS {
@@ -52,18 +49,14 @@ impl Asking {
 
     /// A byte was transmitted.
     pub fn note_output(&mut self)
-        ensures ended { self.new.has_ended ≡ self.old.has_ended }
-        ensures polled { self.new.is_polled ≡ self.old.is_polled }
-        ensures looks { self.new.looks ≡ 0 }
+        ensures { self.new ≡ record self.old { looks = 0 } }
     {
         self.looks = 0;
     }
 
-    /// A read gave no byte. The input is at its end, unless it is polled.
-    pub fn note_none(&mut self)
-        ensures ended { self.new.has_ended ≡ not self.old.is_polled }
-        ensures polled { self.new.is_polled ≡ self.old.is_polled }
-        ensures looks { self.new.looks ≡ self.old.looks }
+    /// The input said that it is at its end, which one that is polled never is.
+    pub fn note_end(&mut self)
+        ensures { self.new ≡ record self.old { has_ended = not self.old.is_polled } }
     {
         self.has_ended = !self.is_polled;
     }

@@ -8,10 +8,10 @@ use Rattle.rrs_board.proofs.terminal.run_at_terminal.Given as goal
 abbrev pub invariant-runs : goal.invariant-runs
 invariant-runs g l = record {
   within : l.steps ≤ l.fn.limit;
-  served : Served g.V.BoardRunner.runs l.fn.limit l.fn.board l.fn.runner
-      (g.R.Read.remaining l.fn.input) (g.R.Read.remaining l.input)
-      (g.W.Write.contents l.fn.output) (g.W.Write.contents l.output) l.steps l.board l.runner;
-  at_end : l.asking.has_ended ≡ true → IsAtEnd (g.R.Read.remaining l.input);
+  served : Served g.V.BoardRunner.runs g.I.BoardInput.says l.fn.is_polled l.fn.limit l.fn.board l.fn.runner l.fn.input
+      g.I.BoardInput.remaining (g.W.Write.contents l.fn.output) (g.W.Write.contents l.output)
+      l.steps l.asking l.board l.runner l.input;
+  at_end : l.asking.has_ended ≡ true → IsAtEnd (g.I.BoardInput.remaining l.input);
   polled : l.fn.is_polled ≡ true → (l.asking.is_polled ≡ true) × (l.asking.has_ended ≡ false);
 }
 
