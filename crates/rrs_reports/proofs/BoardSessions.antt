@@ -7,6 +7,8 @@ use Rattle.rrs_board.specs.declared.runs.RecordedStep.{RecordedStep}
 use Rattle.rrs_board.specs.declared.runs.WatchedRuns.{WatchedRuns}
 use Rattle.rrs_board.specs.Boards.{BoardStepped, QuietSteps, BoardRun}
 use Rattle.rrs_board.specs.WatchedBoards.{IsShown, QuietlyShown, NoStep, OneMore, watched_runs}
+use Rattle.rrs_board.specs.declared.asking.Asking.{Asking}
+use Rattle.rrs_board.specs.Inputs.{Listener}
 use Rattle.rrs_board.specs.Terminals.{Runner, plain_runs, Session, Served, ServedAndRun, EndedSession, EndsSession}
 use Rattle.rrs_reports.specs.Records.{keeps, wants_all}
 use Rattle.rrs_reports.specs.BoardRecords.{listing, BoardWithRecords}
@@ -43,13 +45,15 @@ module _ {V : Type 0} (sees : V → RecordedStep → V → Type 0) (wants : V �
   run_plain v made most old steps None new w more run = (run.1 more, quiet_plain made v old steps new w run.2)
   run_plain v made most old steps (Some event) new w more run = event_plain v made most old steps event new w run
 
-  session_plain : (limit : ℕ) (start : Board) (begun : WatchedRuns V) (steps : ℕ) (typed printed : List ℕ) (new : Board)
-      (w : WatchedRuns V) → Session (watched_runs sees wants) limit start begun steps typed printed new w
-      → Session (plain_runs {V = Unit {0}}) limit start tt steps typed printed new tt
-  session_plain limit start begun _ _ _ _ _ Session.Starts = Session.Starts
-  session_plain limit start begun _ _ _ _ _ (Session.Runs {steps = steps} {more = more} {typed = typed} {printed = printed} {event = event} {old = old} {mid = mid} {new = new} {v = v} {w = w} bytes before run goes arrives) =
-      Session.Runs bytes (session_plain limit start begun steps typed printed old v before)
-      (event_plain v steps (limit - steps) old more event mid w run) goes arrives
+  session_plain : {I : Type 0} (says : Listener I) (polled : Bool) (limit : ℕ) (start : Board) (begun : WatchedRuns V)
+      (first : I) (steps : ℕ) (typed printed : List ℕ) (asking : Asking) (new : Board) (w : WatchedRuns V) (rest : I)
+      → Session (watched_runs sees wants) says polled limit start begun first steps typed printed asking new w rest
+      → Session (plain_runs {V = Unit {0}}) says polled limit start tt first steps typed printed asking new tt rest
+  session_plain says polled limit start begun first _ _ _ _ _ _ _ Session.Starts = Session.Starts
+  session_plain says polled limit start begun first _ _ _ _ _ _ _ (Session.Runs {steps = steps} {more = more} {typed = typed} {printed = printed} {asking = asking} {event = event} {old = old} {mid = mid} {new = new} {v = v} {w = w} {input = input} {rest = rest} answer before run heard succeeds goes arrives) =
+      Session.Runs answer
+      (session_plain says polled limit start begun first steps typed printed asking old v input before)
+      (event_plain v steps (limit - steps) old more event mid w run) heard succeeds goes arrives
 
   -- ---- runs with a list for the watcher
 
@@ -99,39 +103,46 @@ module _ {V : Type 0} (sees : V → RecordedStep → V → Type 0) (wants : V �
         (b.0, (run.0, (λ _. run.1 more), b.1), b.2)
     run_kept v made most old rs steps (Some event) new w more run p = event_kept v made most old rs steps event new w run p
 
-    session_kept : (limit : ℕ) (start : Board) (begun : WatchedRuns V) (steps : ℕ) (typed printed : List ℕ) (new : Board)
-        (w : WatchedRuns V) → Session (watched_runs sees wants) limit start begun steps typed printed new w
+    session_kept : {I : Type 0} (says : Listener I) (polled : Bool) (limit : ℕ) (start : Board) (begun : WatchedRuns V)
+        (first : I) (steps : ℕ) (typed printed : List ℕ) (asking : Asking) (new : Board) (w : WatchedRuns V) (rest : I)
+        → Session (watched_runs sees wants) says polled limit start begun first steps typed printed asking new w rest
         → P [] begun.watcher
         → (all : List RecordedStep)
-        × Session (watched_runs keeps wants_all) limit start (listing [] begun.is_first) steps typed printed new
-        (listing all w.is_first)
+        × Session (watched_runs keeps wants_all) says polled limit start (listing [] begun.is_first) first
+        steps typed printed asking new (listing all w.is_first) rest
         × P all w.watcher
-    session_kept limit start begun _ _ _ _ _ Session.Starts p = ([], Session.Starts, p)
-    session_kept limit start begun _ _ _ _ _ (Session.Runs {steps = steps} {more = more} {typed = typed} {printed = printed} {event = event} {old = old} {mid = mid} {new = new} {v = v} {w = w} bytes before run goes arrives) p =
-        let b = session_kept limit start begun steps typed printed old v before p in
+    session_kept says polled limit start begun first _ _ _ _ _ _ _ Session.Starts p = ([], Session.Starts, p)
+    session_kept says polled limit start begun first _ _ _ _ _ _ _ (Session.Runs {steps = steps} {more = more} {typed = typed} {printed = printed} {asking = asking} {event = event} {old = old} {mid = mid} {new = new} {v = v} {w = w} {input = input} {rest = rest} answer before run heard succeeds goes arrives) p =
+        let b = session_kept says polled limit start begun first steps typed printed asking old v input before p in
         let k = event_kept v steps (limit - steps) old b.0 more event mid w run b.2 in
-        (k.0, Session.Runs bytes b.1 k.1 goes arrives, k.2)
+        (k.0, Session.Runs answer b.1 k.1 heard succeeds goes arrives, k.2)
 
     -- a session that was shown to a watcher which wants more at the end, and what holds of it and the records
-    pub ended_kept : (limit : ℕ) (start : Board) (begun : WatchedRuns V) (input rest before after : Option (List ℕ))
+    pub ended_kept : {I : Type 0} (says : Listener I) (remaining : I → Option (List ℕ)) (polled : Bool) (limit : ℕ)
+        (start : Board) (begun : WatchedRuns V) (first rest : I) (before after : Option (List ℕ))
         (steps : ℕ) (event : Option BoardEvent) (new : Board) (w : WatchedRuns V)
-        → EndedSession (watched_runs sees wants) limit start begun input rest before after steps event new w
+        → EndedSession (watched_runs sees wants) says remaining polled limit start begun first rest before after
+        steps event new w
         → wants w.watcher ≡ true → begun.is_first ≡ false → P [] begun.watcher
         → (all : List RecordedStep)
-        × BoardWithRecords limit start input rest before after steps event new all × P all w.watcher
-    ended_kept limit start begun input rest before after steps event new w ended more first p =
+        × BoardWithRecords says remaining polled limit start first rest before after steps event new all
+        × P all w.watcher
+    ended_kept says remaining polled limit start begun first rest before after steps event new w ended more none p =
         let made = ended.made in
         let so_far = made.served in
-        let b = session_kept limit start begun made.earlier so_far.typed so_far.printed made.mid made.at so_far.session p in
+        let b = session_kept says polled limit start begun first made.earlier so_far.typed so_far.printed made.asking made.mid
+        made.at made.input so_far.session p in
         let k = run_kept made.at made.earlier (limit - made.earlier) made.mid b.0 made.more event new w more made.last b.2 in
-        let from = λ (f : Bool). EndedSession (watched_runs keeps wants_all) limit start (listing [] f)
-        input rest before after steps event new (listing k.0 w.is_first) in
+        let from = λ (f : Bool). EndedSession (watched_runs keeps wants_all) says remaining polled limit start
+        (listing [] f) first rest before after steps event new (listing k.0 w.is_first) in
         let all : from begun.is_first = record {
           made = record {
             earlier = made.earlier;
             more = made.more;
+            asking = made.asking;
             mid = made.mid;
             at = listing b.0 made.at.is_first;
+            input = made.input;
             served = record {
               typed = so_far.typed;
               printed = so_far.printed;
@@ -141,7 +152,10 @@ module _ {V : Type 0} (sees : V → RecordedStep → V → Type 0) (wants : V �
             };
             last = k.1;
             counted = made.counted;
+            unread = made.unread;
           };
+          answer = ended.answer;
+          heard = ended.heard;
           ends = ended.ends;
         } in (
           k.0,
@@ -150,23 +164,28 @@ module _ {V : Type 0} (sees : V → RecordedStep → V → Type 0) (wants : V �
               made = record {
                 earlier = made.earlier;
                 more = made.more;
+                asking = made.asking;
                 mid = made.mid;
                 at = tt;
+                input = made.input;
                 served = record {
                   typed = so_far.typed;
                   printed = so_far.printed;
-                  session = session_plain limit start begun made.earlier so_far.typed so_far.printed made.mid made.at
-                      so_far.session;
+                  session = session_plain says polled limit start begun first made.earlier so_far.typed so_far.printed
+                      made.asking made.mid made.at made.input so_far.session;
                   consumed = so_far.consumed;
                   appended = so_far.appended;
                 };
                 last = run_plain made.at made.earlier (limit - made.earlier) made.mid made.more event new w more made.last;
                 counted = made.counted;
+                unread = made.unread;
               };
+              answer = ended.answer;
+              heard = ended.heard;
               ends = ended.ends;
             };
             first = w.is_first;
-            recorded = subst from first all;
+            recorded = subst from none all;
           },
           k.2,
         )

@@ -19,6 +19,7 @@ use Rattle.rrs_machine.specs.Traps.{exception_value}
 use Rattle.rrs_board.specs.declared.board.Board.{Board}
 use Rattle.rrs_board.specs.declared.effects.BoardEvent.{BoardEvent}
 use Rattle.rrs_board.specs.declared.runs.RecordedStep.{RecordedStep}
+use Rattle.rrs_board.specs.Inputs.{Listener}
 use Rattle.rrs_reports.specs.CommitLogs.{committed_text, access_text, Entry, log_text}
 use Rattle.rrs_reports.specs.BoardRecords.{BoardWithRecords}
 use Rattle.rrs_reports.specs.declared.commit_log.LogWindow.{LogWindow}
@@ -92,9 +93,11 @@ board_entry s = record {
 -- ---- the log of a run
 
 -- A session at a terminal that ended so, and the log of its steps is what was written.
-pub record TracesBoard (limit : ℕ) (start : Board) (input rest before after : Option (List ℕ))
+pub record TracesBoard {I : Type 0} (says : Listener I) (remaining : I → Option (List ℕ))
+    (polled : Bool) (limit : ℕ) (start : Board) (input rest : I) (before after : Option (List ℕ))
     (steps : ℕ) (event : Option BoardEvent) (new : Board)
     (window : LogWindow) (empty log : Option (List ℕ)) : Type 0 where
   pub records : List RecordedStep
-  pub runs : BoardWithRecords limit start input rest before after steps event new records
+  pub runs : BoardWithRecords says remaining polled limit start input rest before after
+      steps event new records
   pub written : Appends empty log (log_text window (map board_entry records))

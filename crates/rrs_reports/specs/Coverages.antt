@@ -11,6 +11,7 @@ use Rattle.rrs_reports.specs.CommitLogs.{committed}
 use Rattle.rrs_board.specs.declared.board.Board.{Board}
 use Rattle.rrs_board.specs.declared.effects.BoardEvent.{BoardEvent}
 use Rattle.rrs_board.specs.declared.runs.RecordedStep.{RecordedStep}
+use Rattle.rrs_board.specs.Inputs.{Listener}
 use Rattle.rrs_reports.specs.Records.{RunsWithRecords}
 use Rattle.rrs_reports.specs.BoardRecords.{BoardWithRecords}
 use Rattle.rrs_reports.specs.declared.coverage.Coverage.{Coverage}
@@ -79,8 +80,10 @@ pub record CoversProcess {R W E : Type 0} (remaining : R → Option (List ℕ))
   pub covers : Covers records c
 
 -- A session at a terminal that ended so, and the counts are those of its steps.
-pub record CoversBoard (limit : ℕ) (start : Board) (input rest before after : Option (List ℕ))
+pub record CoversBoard {I : Type 0} (says : Listener I) (remaining : I → Option (List ℕ))
+    (polled : Bool) (limit : ℕ) (start : Board) (input rest : I) (before after : Option (List ℕ))
     (steps : ℕ) (event : Option BoardEvent) (new : Board) (c : Coverage) : Type 0 where
   pub records : List RecordedStep
-  pub runs : BoardWithRecords limit start input rest before after steps event new records
+  pub runs : BoardWithRecords says remaining polled limit start input rest before after
+      steps event new records
   pub covers : Covers (map (λ step. step.retired.retired) records) c

@@ -11,11 +11,12 @@ use crate::commit_log::{
 use arrayvec::ArrayString;
 use itoa::Buffer;
 use rrs_board::{
-    Board, BoardEnd, BoardWatcher, RecordedStep, TerminalError, WatchedRuns, run_at_terminal,
+    Board, BoardEnd, BoardInput, BoardWatcher, RecordedStep, TerminalError, WatchedRuns,
+    run_at_terminal,
 };
 use rrs_machine::{CsrAccess, Exception, Interrupt, MachineAnswer, MachineRetired};
 use rrs_words::csr_name;
-use std::io::{Read, Write};
+use std::io::Write;
 
 /// Appends the CSR that was written, if one was, and its value.
 fn push_csr(line: &mut CommitLine, access: &CsrAccess)
@@ -183,19 +184,18 @@ pub enum BoardTraceError {
 /// # Errors
 ///
 /// Those of `run_at_terminal`, and a write of the log that fails.
-pub fn trace_board<R: Read, W: Write, O: Write>(
+pub fn trace_board<I: BoardInput, W: Write, O: Write>(
     board: &mut Board,
     limit: u64,
     is_polled: bool,
-    input: &mut R,
+    input: &mut I,
     output: &mut W,
     window: LogWindow,
     out: &mut O,
 ) -> Result<BoardEnd, BoardTraceError>
-    ensures traced { IfOk result (λ end. TracesBoard limit board.old
-        (R.remaining input.old) (R.remaining input.new)
-        (W.contents output.old) (W.contents output.new) end.steps end.event board.new
-        window (O.contents out.old) (O.contents out.new)) }
+    ensures traced { IfOk result (λ end. TracesBoard I.says I.remaining is_polled limit board.old
+        input.old input.new (W.contents output.old) (W.contents output.new)
+        end.steps end.event board.new window (O.contents out.old) (O.contents out.new)) }
     ensures polled { is_polled ≡ true → IfOk result (λ end.
         end.event ≡ Some BoardEvent.NothingWakes
         → waits_for_input board.new.memory.devices ≡ false) }

@@ -9,11 +9,12 @@ use crate::code::Code;
 use crate::commit_log::committed_word;
 use crate::profile::Profile;
 use rrs_board::{
-    Board, BoardEnd, BoardWatcher, RecordedStep, TerminalError, WatchedRuns, run_at_terminal,
+    Board, BoardEnd, BoardInput, BoardWatcher, RecordedStep, TerminalError, WatchedRuns,
+    run_at_terminal,
 };
 use rrs_trace::Retired;
 use std::alloc::Global;
-use std::io::{Read, Write};
+use std::io::Write;
 
 /// The word of a step that was committed at an address, where the program went on elsewhere than
 /// behind it, and else 0.
@@ -72,24 +73,23 @@ pub enum BoardCoverError {
 /// # Errors
 ///
 /// Those of `run_at_terminal`, and out of memory for the counts.
-pub fn cover_board<'a, 'b, R: Read, W: Write>(
+pub fn cover_board<'a, 'b, I: BoardInput, W: Write>(
     alloc: Global,
     board: &mut Board,
     code: &'b Code<'a>,
     limit: u64,
     is_polled: bool,
-    input: &mut R,
+    input: &mut I,
     output: &mut W,
 ) -> Result<(BoardEnd, Profile<'a, 'b>), BoardCoverError>
-    ensures covered { IfOk result (λ run. CoversBoard limit board.old
-        (R.remaining input.old) (R.remaining input.new)
-        (W.contents output.old) (W.contents output.new) run.0.steps run.0.event board.new
-        run.1.coverage) }
+    ensures covered { IfOk result (λ run. CoversBoard I.says I.remaining is_polled limit board.old
+        input.old input.new (W.contents output.old) (W.contents output.new)
+        run.0.steps run.0.event board.new run.1.coverage) }
     ensures polled { is_polled ≡ true → IfOk result (λ run.
         run.0.event ≡ Some BoardEvent.NothingWakes
         → waits_for_input board.new.memory.devices ≡ false) }
     ensures untouched { IfErr result (λ error. error ≡ BoardCoverError.OutOfMemory
-        → (board.new ≡ board.old) × (R.remaining input.new ≡ R.remaining input.old)
+        → (board.new ≡ board.old) × (input.new ≡ input.old)
         × (W.contents output.new ≡ W.contents output.old)) }
 {
     let Ok(profile) = Profile::new(alloc, code) else {

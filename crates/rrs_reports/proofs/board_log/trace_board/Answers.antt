@@ -23,7 +23,7 @@ returns-else-is_broken g c =
     let k = ended_kept (λ old step new. Logs contents old (board_entry step) new) wants_lines
     (λ rs v. Held contents window before start (map board_entry rs) v)
     (λ rs r v w held logs. held_of contents window before start board_entry rs r v w held logs)
-    _ _ _ _ _ _ _ _ _ _ _ c.in-Ok.ensures.session (ap (λ (b : Bool). if b then false else true) whole) refl
+    g.I.BoardInput.says g.I.BoardInput.remaining _ _ _ _ _ _ _ _ _ _ _ _ c.in-Ok.ensures.session (ap (λ (b : Bool). if b then false else true) whole) refl
     (record { same_out = refl; whole = logged_none contents window _ refl }) in
     let name = k.2.same_out in
     let same : c.out-1.given.0 ≡ new.out.now = search rules in

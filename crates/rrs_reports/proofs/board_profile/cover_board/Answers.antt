@@ -16,7 +16,7 @@ returns-in-Ok-run_at_terminal g c =
     (λ rs p. Covers (map of rs) p.coverage)
     (λ rs r v w before now. subst (λ all. Covers all w.coverage) (sym (map-append of rs (r ∷ [])))
     (covers_more (map of rs) (of r) v.coverage w.coverage before now))
-    _ _ _ _ _ _ _ _ _ _ _ c.in-Ok-run_at_terminal.ensures.session refl refl (covers_none _ new.0 new.1 new.2) in
+    g.I.BoardInput.says g.I.BoardInput.remaining _ _ _ _ _ _ _ _ _ _ _ _ c.in-Ok-run_at_terminal.ensures.session refl refl (covers_none _ new.0 new.1 new.2) in
     record {
       covered = record { records = k.0; runs = k.1; covers = k.2 };
       polled = c.in-Ok-run_at_terminal.ensures.polled;
