@@ -21,7 +21,12 @@ NOT_OVER = {
 # The modules that do not, in crates that do: they are tests of the crates above.
 MODULES_NOT_OVER = {("tests_assembler", "lent"), ("tests_assembler", "room")}
 # The modules that need the feature `std`, in crates that otherwise do not.
-NEED_STD = {("rrs_memory", "load"), ("rrs_board", "images"), ("rrs_board", "terminal")}
+NEED_STD = {
+    ("rrs_memory", "load"),
+    ("rrs_board", "images"),
+    ("rrs_board", "input"),
+    ("rrs_board", "terminal"),
+}
 # Crates of others, for which those of stand-in/ stand. A registry has those with a version. The
 # others take an allocator in Rattle, and the crates of their names in a registry do not.
 OUTSIDE = {"arrayvec": "0.7", "itoa": "1", "hex": None, "circular_buffer": None}

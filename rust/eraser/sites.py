@@ -18,6 +18,24 @@ SITES = (
         "As for a register that is read.",
     ),
     (
+        "rrs_board/src/input.rt",
+        "    let _ = patience;\n    reader.read(buffer)\n",
+        "    let milliseconds = match patience {\n"
+        "        Patience::AtOnce => Some(0),\n"
+        "        Patience::Millisecond => Some(1),\n"
+        "        Patience::Endless => None,\n"
+        "    };\n"
+        "    std::rt::read_within(reader, buffer, milliseconds)\n",
+        "The proved program can't ask whether a read would wait. Here a thread reads standard input"
+        " ahead, so a look at a pipe or a terminal does not wait.",
+    ),
+    (
+        "rrs_commands/src/subcommands.rt",
+        "Each such look waits for\ninput here, with --input wait or without.",
+        "No such look waits for\ninput here, unless with --input wait.",
+        "So a look does, by the substitution before.",
+    ),
+    (
         "rrs_files/src/host_folder.rt",
         "str::from_utf8(path)",
         "core::str::from_utf8(path)",

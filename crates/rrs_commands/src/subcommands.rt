@@ -120,7 +120,7 @@ const TRACE: Subcommand = Subcommand {
         usage: "rrs trace [--limit STEPS] [--memory BYTES] [--clock fixed] [--env NAME=VALUE] ..
     [--from ADDRESS|SYMBOL] [--to ADDRESS|SYMBOL] [--only FUNCTION] [--steps N-M]
     [--output FILE] PROGRAM [ARGUMENT] ..
-       rrs trace --board [--limit STEPS] [--memory BYTES] [--input polled] [--raw]
+       rrs trace --board [--limit STEPS] [--memory BYTES] [--input polled|wait] [--raw]
            [--dtb FILE] [--append TEXT] [--symbols FILE] [--from ADDRESS|SYMBOL]
            [--to ADDRESS|SYMBOL] [--only FUNCTION] [--steps N-M] [--output FILE] PROGRAM",
     },
@@ -152,7 +152,7 @@ const COVER: Subcommand = Subcommand {
         name: "rrs cover",
         usage: "rrs cover [--limit STEPS] [--memory BYTES] [--clock fixed] [--env NAME=VALUE] ..
     [--annotate] [--callgrind FILE] [--output FILE] PROGRAM [ARGUMENT] ..
-       rrs cover --board [--limit STEPS] [--memory BYTES] [--input polled] [--raw]
+       rrs cover --board [--limit STEPS] [--memory BYTES] [--input polled|wait] [--raw]
            [--dtb FILE] [--append TEXT] [--symbols FILE] [--annotate] [--callgrind FILE]
            [--output FILE] PROGRAM",
     },
@@ -240,8 +240,8 @@ const BOARD: Subcommand = Subcommand {
     task: Task::Board,
     command: Command {
         name: "rrs board",
-        usage: "rrs board [--limit STEPS] [--memory BYTES] [--input polled] [--raw] [--dtb FILE]
-    [--append TEXT] PROGRAM",
+        usage: "rrs board [--limit STEPS] [--memory BYTES] [--input polled|wait] [--raw]
+    [--dtb FILE] [--append TEXT] PROGRAM",
     },
     summary: "runs firmware on a board with machine mode",
     help: "Runs PROGRAM, an ELF executable for RV32IMA, on a board like QEMU's virt: RAM of
@@ -257,9 +257,10 @@ own, whose arguments for the kernel are TEXT. An executable has a1 0 without --d
 --append.
 
 Input is read where PROGRAM looks a thousand times in a row and finds none, and at a
-wfi that no alarm can end where IER asks for received data. With --input polled it is
-read at each wfi that waits too, and a read that gives nothing is not its end: for a
-terminal that examples/board/console sets.
+wfi that no alarm can end where IER asks for received data. Each such look waits for
+input here, with --input wait or without. With --input polled it is read at each wfi
+that waits too, and a read that gives nothing is not its end: for a terminal that
+examples/board/console sets.
 
 Status: that of the finisher; 124 at the limit; 125 where it can't be run; 126 where
 wfi waits and nothing can wake it.

@@ -13,12 +13,12 @@
 --       [--incbin-anywhere] FILE
 --   rrs dis FILE
 --   rrs elf FILE
---   rrs board [--limit STEPS] [--memory BYTES] [--input polled] [--raw] [--dtb FILE]
+--   rrs board [--limit STEPS] [--memory BYTES] [--input polled|wait] [--raw] [--dtb FILE]
 --       [--append TEXT] PROGRAM
---   rrs trace --board [--limit STEPS] [--memory BYTES] [--input polled] [--raw] [--dtb FILE]
+--   rrs trace --board [--limit STEPS] [--memory BYTES] [--input polled|wait] [--raw] [--dtb FILE]
 --       [--append TEXT] [--symbols FILE] [--from ADDRESS|SYMBOL] [--to ADDRESS|SYMBOL]
 --       [--only FUNCTION] [--steps N-M] [--output FILE] PROGRAM
---   rrs cover --board [--limit STEPS] [--memory BYTES] [--input polled] [--raw] [--dtb FILE]
+--   rrs cover --board [--limit STEPS] [--memory BYTES] [--input polled|wait] [--raw] [--dtb FILE]
 --       [--append TEXT] [--symbols FILE] [--annotate] [--callgrind FILE] [--output FILE] PROGRAM
 --   rrs gdb [--memory BYTES] [--input FILE] [--env NAME=VALUE] .. [--raw] PROGRAM [ARGUMENT] ..
 --   rrs gdb --board [--limit STEPS] [--memory BYTES] [--input FILE] [--raw] [--dtb FILE]
@@ -54,6 +54,7 @@ pub record Wanted : Type 0 where
   pub annotated : Bool
   pub anywhere : Bool
   pub polled : Bool
+  pub waits : Bool
   pub clock_fixed : Bool
   pub random_host : Bool
   pub form : Form
@@ -87,6 +88,7 @@ unasked task = record {
   annotated = false;
   anywhere = false;
   polled = false;
+  waits = false;
   clock_fixed = false;
   random_host = false;
   form = Form.Bytes;
@@ -124,6 +126,7 @@ wanted_of request = record {
   annotated = request.is_annotated;
   anywhere = request.has_any_file;
   polled = request.is_polled;
+  waits = request.waits;
   clock_fixed = request.has_fixed_clock;
   random_host = request.has_host_random;
   form = request.form;
@@ -221,7 +224,8 @@ Sets task Callgrind value old new = new ≡ record old { callgrind = Some value 
 Sets Debug Input value old new = new ≡ record old { input = Some value }
 Sets DebugBoard Input value old new = new ≡ record old { input = Some value }
 Sets task Input value old new =
-    (value ≡ codes "polled") × (new ≡ record old { polled = true })
+    ((value ≡ codes "polled") × (new ≡ record old { polled = true; waits = false }))
+    ⊎ ((value ≡ codes "wait") × (new ≡ record old { polled = false; waits = true }))
 Sets task Clock value old new =
     (value ≡ codes "fixed") × (new ≡ record old { clock_fixed = true })
 Sets task Random value old new =
@@ -267,7 +271,8 @@ RefusesValue task Output value old fault = ⊥
 RefusesValue task Callgrind value old fault = ⊥
 RefusesValue Debug Input value old fault = ⊥
 RefusesValue DebugBoard Input value old fault = ⊥
-RefusesValue task Input value old fault = (value ≡ codes "polled" → ⊥) × (fault ≡ Wrong Input value)
+RefusesValue task Input value old fault =
+    (value ≡ codes "polled" → ⊥) × (value ≡ codes "wait" → ⊥) × (fault ≡ Wrong Input value)
 RefusesValue task Clock value old fault = (value ≡ codes "fixed" → ⊥) × (fault ≡ Wrong Clock value)
 RefusesValue task Random value old fault = (value ≡ codes "host" → ⊥) × (fault ≡ Wrong Random value)
 RefusesValue task Variable value old fault = RefusesVariable old.variables value fault

@@ -7,7 +7,7 @@ use crate::refusal::{FileFault, HostFault, Refusal, no_firmware, out_of_memory};
 use crate::requests::Request;
 use rrs_board::memory::RAM_START;
 use rrs_board::{
-    Board, BoardEnd, BoardError, BoardEvent, PlainRuns, Profile, TerminalError, device_tree,
+    Board, BoardEnd, BoardError, BoardEvent, PlainRuns, Profile, TerminalError, Typed, device_tree,
     run_at_terminal,
 };
 use rrs_elf::Addresses;
@@ -234,6 +234,14 @@ pub(crate) fn stopped<'a>(
     }
 }
 
+/// What is typed at a board, as a request says: whether a look waits for it.
+pub(crate) fn typed_at<R>(input: R, request: Request<'_>) -> Typed<Noting<R>> {
+    Typed {
+        reader: Noting::new(input),
+        waits: request.waits,
+    }
+}
+
 /// Runs firmware as a request says: what its UART transmits goes to `output`, each byte at once,
 /// and what it receives comes from `input`.
 ///
@@ -247,7 +255,7 @@ pub fn run_board<'a, H: Files + Eprint + AllocGlobal, R: Read, W: Write>(
     output: &mut W,
 ) -> Result<Ending, Refusal<'a>> {
     let file = read_program(rt, request.path())?;
-    let (mut input, mut output) = (Noting::new(input), Noting::new(output));
+    let (mut input, mut output) = (typed_at(input, request), Noting::new(output));
     let mut left = request.limit;
     for _ in 0..u64::MAX {
         let mut board = board_with(rt, request, &file)?;
@@ -270,7 +278,7 @@ pub fn run_board<'a, H: Files + Eprint + AllocGlobal, R: Read, W: Write>(
                 let end = BoardEnd { steps, ..end };
                 return Ok(ending_of(rt, "rrs board", &board, names, end));
             }
-            Err(error) => return Err(stopped(error, input.fault, output.fault)),
+            Err(error) => return Err(stopped(error, input.reader.fault, output.fault)),
         }
     }
     Ok(Ending::Limit)

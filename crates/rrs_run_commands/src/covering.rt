@@ -1,6 +1,6 @@
 //! `rrs cover`: what a run of a program, or of a board, covered.
 
-use crate::boards::{Names, board_with, ending_of, own_names, stopped};
+use crate::boards::{Names, board_with, ending_of, own_names, stopped, typed_at};
 use crate::disassembling::{code_of, flushed};
 use crate::executables::{memory_for, tell};
 use crate::files::{Noting, STANDARD_ERROR, buffered, read_program};
@@ -188,7 +188,7 @@ fn cover_loaded<'a, H: Files + Eprint + AllocGlobal, R: Read, W: Write, E: Write
     errors: &mut E,
 ) -> Result<Ending, Refusal<'a>> {
     let mut outputs = Outputs::created(rt, request)?;
-    let (mut input, mut output) = (Noting::new(input), Noting::new(output));
+    let (mut input, mut output) = (typed_at(input, request), Noting::new(output));
     let (limit, is_polled) = (request.limit, request.is_polled);
     let run = cover_board(
         rt.alloc(),
@@ -207,7 +207,9 @@ fn cover_loaded<'a, H: Files + Eprint + AllocGlobal, R: Read, W: Write, E: Write
             }
         }
         Err(BoardCoverError::OutOfMemory) => Err(out_of_memory()),
-        Err(BoardCoverError::Terminal(error)) => Err(stopped(error, input.fault, output.fault)),
+        Err(BoardCoverError::Terminal(error)) => {
+            Err(stopped(error, input.reader.fault, output.fault))
+        }
     };
     outputs.close(rt, ended)
 }

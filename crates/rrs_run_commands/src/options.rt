@@ -74,7 +74,7 @@ pub enum Setting {
     Output,
     /// `--callgrind`, with a path.
     Callgrind,
-    /// `--input`, with a path; on a board that is not debugged `polled`.
+    /// `--input`, with a path; on a board that is not debugged `polled` or `wait`.
     Input,
     /// `--clock`, with `fixed`.
     Clock,

@@ -46,6 +46,8 @@ pub struct Request<'a> {
     pub has_any_file: bool,
     /// Whether the input of a board is polled: `--input polled`.
     pub is_polled: bool,
+    /// Whether each look of a board at its input waits for it: `--input wait`.
+    pub waits: bool,
     /// Whether the clocks of a program stand at 0: `--clock fixed`.
     pub has_fixed_clock: bool,
     /// Whether the random bytes of a program are those of the host: `--random host`.
@@ -112,6 +114,7 @@ fn unasked<'a>(task: Task) -> Request<'a>
         is_annotated: false,
         has_any_file: false,
         is_polled: false,
+        waits: false,
         has_fixed_clock: false,
         has_host_random: false,
         form: Form::Bytes,
@@ -335,7 +338,14 @@ fn set<'a>(
         Setting::Callgrind => request.callgrind = Some(value),
         Setting::Input => match task {
             Task::Debug | Task::DebugBoard => request.input = Some(value),
-            _ if value == "polled" => request.is_polled = true,
+            _ if value == "polled" => {
+                request.is_polled = true;
+                request.waits = false;
+            }
+            _ if value == "wait" => {
+                request.is_polled = false;
+                request.waits = true;
+            }
             _ => return Err(Mistake::Wrong(setting, value)),
         },
         Setting::Clock if value == "fixed" => request.has_fixed_clock = true,

@@ -1,6 +1,6 @@
 //! `rrs trace`: the commit log of a run of a program, or of a board, as Spike writes it.
 
-use crate::boards::{Names, board_with, ending_of, own_names, stopped};
+use crate::boards::{Names, board_with, ending_of, own_names, stopped, typed_at};
 use crate::disassembling::code_of;
 use crate::executables::{memory_for, tell};
 use crate::files::{Noting, STANDARD_ERROR, buffered, read_program, unwritten};
@@ -218,7 +218,7 @@ fn trace_loaded<'a, H: Eprint + AllocGlobal, R: Read, W: Write, O: Write>(
     output: &mut W,
     log: &mut O,
 ) -> Result<Ending, Refusal<'a>> {
-    let (mut input, mut output) = (Noting::new(input), Noting::new(output));
+    let (mut input, mut output) = (typed_at(input, request), Noting::new(output));
     let mut log = buffered(rt.alloc(), log)?;
     let (limit, is_polled) = (request.limit, request.is_polled);
     let run = trace_board(
@@ -232,7 +232,9 @@ fn trace_loaded<'a, H: Eprint + AllocGlobal, R: Read, W: Write, O: Write>(
     );
     let flushed = log.flush();
     match run {
-        Err(BoardTraceError::Terminal(error)) => Err(stopped(error, input.fault, output.fault)),
+        Err(BoardTraceError::Terminal(error)) => {
+            Err(stopped(error, input.reader.fault, output.fault))
+        }
         Err(BoardTraceError::Log) => Err(Refusal::Output),
         Ok(end) => match flushed {
             Ok(()) => Ok(ending_of(rt, "rrs trace", &board, names, end)),

@@ -3,7 +3,8 @@
 use crate::packets::wanted;
 use rrs_board::memory::Ram;
 use rrs_board::{
-    Board, BoardEnd, BoardError, BoardEvent, PlainRuns, Profile, TerminalError, run_at_terminal,
+    Board, BoardEnd, BoardError, BoardEvent, PlainRuns, Profile, TerminalError, Typed,
+    run_at_terminal,
 };
 use rrs_board_gdb::{BoardSession, serve};
 use rrs_elf::ElfError;
@@ -388,7 +389,7 @@ fn the_entry_is_a_virtual_address(rt: HostRuntime) -> Result<(), Fail> {
 fn at_terminal(
     alloc: Global,
     pc: u32,
-    mut input: &[u8],
+    input: &[u8],
     output: &mut Vec<u8>,
 ) -> Result<Result<Option<BoardEvent>, TerminalError>, AllocError> {
     let mut board = firmware_at(alloc, pc)?;
@@ -398,7 +399,7 @@ fn at_terminal(
             &mut board,
             10_000,
             false,
-            &mut input,
+            &mut Typed::new(input),
             output,
         ) {
             Ok(end) => Ok(end.event),

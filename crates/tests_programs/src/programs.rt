@@ -266,14 +266,14 @@ const QUIET_USAGE: &str = "usage: rrs run [--quiet] FILE LIMIT\n";
 const TRACE_USAGE: &str = "usage: rrs trace [--limit STEPS] [--memory BYTES] [--clock fixed] \
     [--env NAME=VALUE] ..\n    [--from ADDRESS|SYMBOL] [--to ADDRESS|SYMBOL] [--only FUNCTION] \
     [--steps N-M]\n    [--output FILE] PROGRAM [ARGUMENT] ..\n       \
-    rrs trace --board [--limit STEPS] [--memory BYTES] [--input polled] [--raw]\n           \
+    rrs trace --board [--limit STEPS] [--memory BYTES] [--input polled|wait] [--raw]\n           \
     [--dtb FILE] [--append TEXT] [--symbols FILE] [--from ADDRESS|SYMBOL]\n           \
     [--to ADDRESS|SYMBOL] [--only FUNCTION] [--steps N-M] [--output FILE] PROGRAM\n";
 
 /// How `rrs cover` is called.
 const COVER_USAGE: &str = "usage: rrs cover [--limit STEPS] [--memory BYTES] [--clock fixed] \
     [--env NAME=VALUE] ..\n    [--annotate] [--callgrind FILE] [--output FILE] PROGRAM [ARGUMENT] ..\n       \
-    rrs cover --board [--limit STEPS] [--memory BYTES] [--input polled] [--raw]\n           \
+    rrs cover --board [--limit STEPS] [--memory BYTES] [--input polled|wait] [--raw]\n           \
     [--dtb FILE] [--append TEXT] [--symbols FILE] [--annotate] [--callgrind FILE]\n           \
     [--output FILE] PROGRAM\n";
 
@@ -493,7 +493,7 @@ static REFUSED_PROGRAMS: [Refused; 43] = [
         Program::Rrs,
         &[b"rrs", b"board", b"process", b"--input", b"file"],
         125,
-        "rrs board: --input: file is no value that it takes: polled alone is one\n",
+        "rrs board: --input: file is no value that it takes: polled and wait are two\n",
     ),
     (
         Program::Rrs,

@@ -25,6 +25,8 @@ pub use heap::{borrow, boxed, collections, fmt, rc, slice, str, string};
 #[cfg(feature = "std")]
 pub use host::{ffi, os, path, sync};
 
+#[cfg(feature = "std")]
+mod ahead;
 pub mod alloc;
 pub mod casts;
 #[cfg(feature = "std")]

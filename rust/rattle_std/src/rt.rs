@@ -2,6 +2,8 @@
 
 use crate::alloc::Global;
 #[cfg(feature = "std")]
+pub use crate::ahead::read_within;
+#[cfg(feature = "std")]
 pub use host_runtime::*;
 
 /// What has the allocator of the program.
@@ -15,6 +17,7 @@ pub trait AllocGlobal {
 #[cfg(feature = "std")]
 mod host_runtime {
     use super::AllocGlobal;
+    use crate::ahead::{self, Ahead};
     use crate::alloc::Global;
     use crate::fs::{Names, OpenFile};
     use crate::io::IsTerminal;
@@ -52,22 +55,28 @@ mod host_runtime {
 
     /// A standard stream, by a duplicate of its descriptor, which is made where it is first used.
     /// Where the process may have no more of them it is the stream of Rust's library, and what is
-    /// written leaves its buffer at once.
+    /// written leaves its buffer at once. A read that is not to wait for ever is of what a thread
+    /// reads ahead.
     #[derive(Debug)]
     pub struct Stream<S> {
         duplicate: Option<Option<File>>,
+        ahead: Option<Option<Ahead>>,
         own: S,
     }
 
     impl<S: AsFd> Stream<S> {
         fn of(own: S) -> Stream<S> {
-            let duplicate = None;
-            Stream { duplicate, own }
+            let (duplicate, ahead) = (None, None);
+            Stream {
+                duplicate,
+                ahead,
+                own,
+            }
         }
 
         /// The duplicate, or else the stream of Rust's library.
         fn parts(&mut self) -> (Option<&mut File>, &mut S) {
-            let Stream { duplicate, own } = self;
+            let Stream { duplicate, own, .. } = self;
             let made = || own.as_fd().try_clone_to_owned().ok().map(File::from);
             (duplicate.get_or_insert_with(made).as_mut(), own)
         }
@@ -81,6 +90,14 @@ mod host_runtime {
 
     impl<S: AsFd + Read> Read for Stream<S> {
         fn read(&mut self, bytes: &mut [u8]) -> io::Result<usize> {
+            if ahead::asked().is_some() && self.ahead.is_none() {
+                let ahead = self.parts().0.and_then(|file| Ahead::of(file));
+                self.ahead = Some(ahead);
+            }
+            if let Some(Some(ahead)) = &self.ahead {
+                let patience = ahead::asked().unwrap_or_default();
+                return ahead.read(bytes, patience);
+            }
             match self.parts() {
                 (Some(file), _) => file.read(bytes),
                 (None, own) => own.read(bytes),

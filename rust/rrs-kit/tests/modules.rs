@@ -52,11 +52,12 @@ const FIRMWARE: [u32; 20] = [
 #[cfg(all(feature = "machine", feature = "std"))]
 #[test]
 fn the_board_has_its_devices_at_their_addresses() {
-    use rrs_kit::machine::board::{Board, BoardEnd, BoardEvent, PlainRuns, run_at_terminal};
+    use rrs_kit::machine::board::{Board, BoardEnd, BoardEvent, PlainRuns, Typed};
+    use rrs_kit::machine::board::run_at_terminal;
     let image: Vec<u8> = FIRMWARE.iter().flat_map(|word| word.to_le_bytes()).collect();
     let mut board = Board::load_image(Global, &image, FIRMWARE.len()).unwrap();
     let mut output = Vec::new();
-    let (mut runs, mut input) = (PlainRuns, &b"i"[..]);
+    let (mut runs, mut input) = (PlainRuns, Typed::new(&b"i"[..]));
     let end = run_at_terminal(&mut runs, &mut board, 9999, false, &mut input, &mut output);
     let steps = 7 + 3 * 1001 + 10;
     assert_eq!(end, Ok(BoardEnd { steps, event: Some(BoardEvent::Finished(7)) }));
@@ -64,6 +65,29 @@ fn the_board_has_its_devices_at_their_addresses() {
     let seen = (devices.software, devices.alarm, devices.inputs().timer, devices.time);
     assert_eq!((&output[..], seen), (&b"hi"[..], (1, 99, true, steps)));
     assert_eq!(board.hart.read_register(13), 7 + 3 * 1001 + 2);
+}
+
+/// An input that has nothing for three times, and keeps how long it might wait. It is asked after
+/// each thousand looks, and not to wait.
+#[cfg(all(feature = "machine", feature = "std"))]
+#[test]
+fn the_input_of_a_board_is_asked_not_to_wait() {
+    use rrs_kit::machine::board::{Board, BoardEnd, BoardEvent, BoardInput, InputAnswer, Patience};
+    use rrs_kit::machine::board::{PlainRuns, run_at_terminal};
+    struct Late(Vec<Patience>);
+    impl BoardInput for Late {
+        fn ask(&mut self, patience: Patience) -> InputAnswer {
+            self.0.push(patience);
+            if self.0.len() < 4 { InputAnswer::Nothing } else { InputAnswer::Byte(b'i') }
+        }
+    }
+    let image: Vec<u8> = FIRMWARE.iter().flat_map(|word| word.to_le_bytes()).collect();
+    let mut board = Board::load_image(Global, &image, FIRMWARE.len()).unwrap();
+    let (mut runs, mut input, mut output) = (PlainRuns, Late(Vec::new()), Vec::new());
+    let end = run_at_terminal(&mut runs, &mut board, 99_999, false, &mut input, &mut output);
+    let steps = 7 + 3 * 4001 + 10;
+    assert_eq!(end, Ok(BoardEnd { steps, event: Some(BoardEvent::Finished(7)) }));
+    assert_eq!((&output[..], &input.0[..]), (&b"hi"[..], &[Patience::AtOnce; 4][..]));
 }
 
 #[cfg(feature = "asm")]
