@@ -294,15 +294,15 @@ def two_tabs_of_a_program(browser):
     type_text(one.page, "# second\n")
     one.page.ask("rrs.work.keep()")
     other.page.wait(f"{TEXT} === '# second\\n'")
-    # both at once: neither has heard of the other
+    # both are changed, and then kept; what a tab writes comes to another one when it comes
     for machine, text in ((one, "# of one\n"), (other, "# of the other\n")):
         machine.page.ask(f"rrs.editor.replace({js(text)}, 'assembly'); rrs.work.isToBeKept = true; null")
     one.page.ask("rrs.work.keep()")
+    other.page.wait("rrs.work.keeping.get('programs', rrs.work.own).text === '# of one\\n'")
     other.page.ask("rrs.work.keep()")
     wanted = [["Program 1", "# of one\n"], ["Program 2", "# of the other\n"]]
     programs = "rrs.work.keeping.all('programs').map(({ name, text }) => [name, text]).sort()"
     for machine in (one, other):
-        # what a tab writes comes to another one when it comes
         machine.page.wait(f"{programs}.length === 2")
         same("the programs", wanted, machine.page.ask(programs))
     same("what each tab has open", ["Program 1", "Program 2"], [
