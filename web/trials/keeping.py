@@ -3,6 +3,7 @@ saved."""
 
 import pathlib
 import tempfile
+import time
 
 from trials import firefox
 from trials.report import same
@@ -16,11 +17,20 @@ KEYS = "Object.keys(localStorage).filter((key) => key.startsWith('rrs.')).length
 KEPT = "[...document.querySelectorAll('#own option')].map((option) => option.textContent)"
 IS_EDITING = "!document.getElementById('editor').hidden"
 PROGRAM = "main: li a0, 5\n  ebreak\n"
+# Seconds until what a page stored has come to the other processes of the browser.
+HANDED_ON = 0.3
+
+
+def leave(page):
+    """Leaves the page. Chromium hands what it stored to its other processes in a while, and one of
+    them may open the next page."""
+    page.go("about:blank")
+    time.sleep(HANDED_ON)
 
 
 def reopen(machine, address=None):
     """Leaves the page, and opens it again."""
-    machine.page.go("about:blank")
+    leave(machine.page)
     machine.page.go(address or Subject.page.as_uri())
     machine.page.wait_ready()
 
@@ -539,7 +549,7 @@ def kept_by_a_page_of_before(browser):
     machine = open_keeping(browser)
     page = machine.page
     page.ask(FORGET)
-    page.go("about:blank")
+    leave(page)
     told = page.send("Page.addScriptToEvaluateOnNewDocument", source="if (location.protocol === 'file:') "
                      + OF_BEFORE.replace("LESSON", js(LESSON.read_text(encoding="utf-8"))))
     page.go(Subject.page.as_uri())
