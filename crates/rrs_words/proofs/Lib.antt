@@ -2,3 +2,5 @@
 pub mod SystemRows
 pub mod SystemDecoding
 pub mod AtomicPlaces
+pub mod FormBits
+pub mod ShortDecoding

@@ -7,10 +7,16 @@ ghost use Rattle.rrs_words.specs.declared.instructions.SystemRow.{SystemRow};
 ghost use Rattle.rrs_words.specs.declared.atomics.AtomicRow.{AtomicRow};
 ghost use Rattle.rrs_words.specs.SystemInstructions.{IsSystem};
 ghost use Rattle.rrs_words.specs.AtomicInstructions.{IsAtomic};
+ghost use Rattle.rrs_words.specs.declared.forms.ShortForm.{ShortForm as Form};
+ghost use Rattle.rrs_words.specs.declared.forms.ShortOperands.{ShortOperands as Operands};
+ghost use Rattle.rrs_words.specs.Forms.{IsShort};
 
 use crate::atomics::{AtomicInstruction, decode_atomic};
 use crate::encoding::{encode_atomic, encode_system};
+use crate::forms::ShortInstruction;
 use crate::instructions::{SystemInstruction, decode_system};
+use crate::short_decoding::decode_short;
+use crate::short_encoding::encode_short;
 
 /// The word of an instruction, and what it is decoded to.
 ///
@@ -90,4 +96,33 @@ pub fn atomic_encode_of_decode(word: u32) -> Option<(AtomicInstruction, Option<u
     let atomic = decode_atomic(word)?;
     let encoded = encode_atomic(&atomic);
     Some((atomic, encoded))
+}
+
+/// The half-word of a compressed instruction, and what it is decoded to.
+///
+/// The answer is `None` exactly where no half-word is the instruction. Otherwise it is the
+/// half-word of the instruction (`half`), and what `decode_short` returned for it, which is the
+/// instruction again (`same`).
+pub fn short_decode_of_encode(short: &ShortInstruction) -> Option<(u16, Option<ShortInstruction>)>
+    ensures half { IfSome result (λ both. IsShort both.0 short.now.form short.now.operands) }
+    ensures same { IfSome result (λ both. both.1 ≡ Some short.now) }
+    ensures no_half { IfNone result ((h : ℕ) → ¬ IsShort h short.now.form short.now.operands) }
+{
+    let half = encode_short(short)?;
+    Some((half, decode_short(half)))
+}
+
+/// The compressed instruction that a half-word is, and what it is encoded to.
+///
+/// The answer is `None` exactly for a half-word that is none. Otherwise it is the instruction of
+/// the half-word (`instruction`), and what `encode_short` returned for it, which is the half-word
+/// again (`same`).
+pub fn short_encode_of_decode(half: u16) -> Option<(ShortInstruction, Option<u16>)>
+    ensures instruction { IfSome result (λ both. IsShort half both.0.form both.0.operands) }
+    ensures same { IfSome result (λ both. both.1 ≡ Some half) }
+    ensures outside { IfNone result ((form : Form) (o : Operands) → ¬ IsShort half form o) }
+{
+    let short = decode_short(half)?;
+    let encoded = encode_short(&short);
+    Some((short, encoded))
 }

@@ -1,7 +1,7 @@
 //! The tests of machine mode and of gdb, written as a user's crate would be.
 //!
 //! Of `rrs_words`, `rrs_hart` and `rrs_machine`: each CSR by each of the six instructions, each trap,
-//! interrupts, runs, generated programs beside a model, and the words and texts of the
+//! interrupts, runs, generated programs beside a model, and the words, half-words and texts of the
 //! instructions. The answers are those of the RISC-V privileged specification, and words are as GNU
 //! `as` makes them. Of `rrs_gdb` and `rrs_board_gdb`: packets and their answers.
 
@@ -15,6 +15,8 @@ mod boards;
 mod csrs;
 #[cfg(test)]
 mod generated;
+#[cfg(test)]
+mod half_words;
 #[cfg(test)]
 mod harts;
 #[cfg(test)]
