@@ -210,7 +210,8 @@ const DISASSEMBLE: Subcommand = Subcommand {
     summary: "disassembles an executable",
     help: "Writes the code of FILE, an ELF executable for RV32IM, as objdump -d lays it out: of
 each section that has code, or, where there are no sections, of each segment that
-has, the symbols, and the address, the word and the text of each instruction.
+has, the symbols, and the address, the word and the text of each instruction. FILE
+may have compressed code.
 
 Status: 0; 1 where FILE is no such executable, and where it can't be read; 2 for
 other words.

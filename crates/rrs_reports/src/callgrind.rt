@@ -65,7 +65,7 @@ fn write_costs<W: Write>(out: &mut Pieces<'_, W>, profile: &Profile<'_, '_>, num
     write_function(out, profile, "fn", number);
     let mut next = profile.code.first_of(number);
     for _ in 0..u32::MAX {
-        let Some((address, behind)) = profile.code.word_of(next) else {
+        let Some((address, behind)) = profile.code.unit_of(next) else {
             return;
         };
         let steps = profile.coverage.count(address);

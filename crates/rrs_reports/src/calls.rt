@@ -103,7 +103,7 @@ impl Calls {
         let functions = code.functions().len().saturating_add(1);
         Ok(Calls {
             calls: Vec::new(alloc),
-            first: vec![in alloc; 0; code.words()]?,
+            first: vec![in alloc; 0; code.units()]?,
             entries: vec![in alloc; 0; functions]?,
             frames: Vec::new(alloc),
             before: Before {

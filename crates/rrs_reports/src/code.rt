@@ -1,32 +1,34 @@
 //! The code of an executable.
 
-use crate::functions::{Function, add_functions, name_words, shown_part};
-use crate::sections::{CodePart, add_code_parts};
+use crate::functions::{Function, add_functions, name_units, shown_part};
+use crate::sections::{CodePart, CodeUnit, add_code_parts};
 use rrs_elf::{Executable, Symbols};
 use std::alloc::{AllocError, Global};
 
-/// The most words, from the first address of code on, that have symbols: 16 MiB.
-const MOST_WORDS: u32 = 1 << 22;
+/// The most bytes, from the first address of code on, that have symbols: 16 MiB.
+const MOST_BYTES: u32 = 1 << 24;
 
 /// The code of an executable: its parts, and its functions.
 #[derive(Drop)]
 pub struct Code<'a> {
     /// The parts that have code, in the order of the file's headers.
     pub parts: Vec<CodePart<'a>>,
+    /// What its instructions lie in.
+    unit: CodeUnit,
     /// The lowest address of code.
     base: u32,
     /// The symbols, if there are some.
     symbols: Option<Symbols<'a>>,
-    /// Of each word from the base on 1 and the number of the symbol that names it, or 0.
+    /// Of each unit from the base on 1 and the number of the symbol that names it, or 0.
     names: Vec<u32>,
     /// The functions, in the order of their addresses.
     functions: Vec<Function<'a>>,
-    /// Of each word from the base on 1 and the number of its function, or 0.
+    /// Of each unit from the base on 1 and the number of its function, or 0.
     owners: Vec<u32>,
-    /// Of each function 1 and the place of its first word that a part has, or 0; entry 0 is for the
-    /// words that belong to none.
+    /// Of each function 1 and the place of its first unit that a part has, or 0; entry 0 is for the
+    /// units that belong to none.
     firsts: Vec<u32>,
-    /// Of each word 1 and the place of the next of the same function, or 0.
+    /// Of each unit 1 and the place of the next of the same function, or 0.
     nexts: Vec<u32>,
 }
 
@@ -36,24 +38,26 @@ pub(crate) fn entry(entries: &[u32], place: usize) -> u32 {
     entries.get(place).copied().unwrap_or(0)
 }
 
-/// The lowest address of code, and how many words there are up to the highest.
-fn range_of(parts: &[CodePart<'_>]) -> (u32, u32) {
+/// The lowest address of code, and how many units there are up to the highest.
+fn range_of(parts: &[CodePart<'_>], unit: CodeUnit) -> (u32, u32) {
     let (mut base, mut end) = (u32::MAX, 0);
     for part in parts {
-        if part.words() > 0 {
+        if part.units() > 0 {
+            let bytes = part.units().saturating_mul(unit.bytes());
             base = base.min(part.address);
-            end = end.max(part.address.saturating_add(part.words().saturating_mul(4)));
+            end = end.max(part.address.saturating_add(bytes));
         }
     }
     if base < end {
-        (base, ((end - base) / 4).min(MOST_WORDS))
+        (base, unit.count((end - base).min(MOST_BYTES)))
     } else {
         (0, 0)
     }
 }
 
 impl<'a> Code<'a> {
-    /// The code of a file that is an executable, with these symbols.
+    /// The code of a file that is an executable, with these symbols. Its instructions lie in such
+    /// units.
     ///
     /// # Errors
     ///
@@ -63,9 +67,11 @@ impl<'a> Code<'a> {
         file: &'a [u8],
         program: &Executable<'a>,
         symbols: Option<Symbols<'a>>,
+        unit: CodeUnit,
     ) -> Result<Code<'a>, AllocError> {
         let mut code = Code {
             parts: Vec::new(alloc),
+            unit,
             base: 0,
             symbols,
             names: Vec::new(alloc),
@@ -81,25 +87,26 @@ impl<'a> Code<'a> {
 
     /// Takes in what a file has.
     fn read(&mut self, file: &'a [u8], program: &Executable<'a>) -> Result<(), AllocError> {
-        add_code_parts(&mut self.parts, file, program)?;
-        let (base, words) = range_of(&self.parts);
+        let unit = self.unit;
+        add_code_parts(&mut self.parts, file, program, unit)?;
+        let (base, units) = range_of(&self.parts, unit);
         self.base = base;
-        self.names.resize(words as usize, 0)?;
+        self.names.resize(units as usize, 0)?;
         if let Some(symbols) = &self.symbols {
-            name_words(&mut self.names, symbols, base);
+            name_units(&mut self.names, symbols, base, unit);
         }
         let (functions, owners) = (&mut self.functions, &mut self.owners);
-        add_functions(functions, owners, self.symbols, base, &self.names)
+        add_functions(functions, owners, self.symbols, base, unit, &self.names)
     }
 
-    /// The parts that have the words, by where each ends: of each word the lowest place at which a
+    /// The parts that have the units, by where each ends: of each unit the lowest place at which a
     /// part begins that ends with it.
     fn starts_of_parts(&self, alloc: Global) -> Result<Vec<u32>, AllocError> {
         let mut starts = vec![in alloc; u32::MAX; self.owners.len()]?;
         for part in &self.parts {
             let first = self.place_of(part.address);
             let behind = first
-                .saturating_add(part.words() as usize)
+                .saturating_add(part.units() as usize)
                 .min(starts.len());
             if first < behind {
                 let start = &mut starts[behind - 1];
@@ -109,7 +116,7 @@ impl<'a> Code<'a> {
         Ok(starts)
     }
 
-    /// Chains the words of each function that parts have, from the last to the first.
+    /// Chains the units of each function that parts have, from the last to the first.
     fn chain(&mut self, alloc: Global) -> Result<(), AllocError> {
         let starts = self.starts_of_parts(alloc)?;
         self.firsts
@@ -125,7 +132,7 @@ impl<'a> Code<'a> {
         Ok(())
     }
 
-    /// Puts a word before those of its function.
+    /// Puts a unit before those of its function.
     fn put_first(&mut self, place: usize) {
         let owner = entry(&self.owners, place) as usize;
         if let (Some(first), Some(next)) = (self.firsts.get_mut(owner), self.nexts.get_mut(place)) {
@@ -134,17 +141,19 @@ impl<'a> Code<'a> {
         }
     }
 
-    /// 1 and the place of the first word that belongs to the function of a number and that a part
+    /// 1 and the place of the first unit that belongs to the function of a number and that a part
     /// has, or 0.
     pub(crate) fn first_of(&self, number: u32) -> u32 {
         entry(&self.firsts, number as usize)
     }
 
-    /// The address of the word at a place, to which 1 was added, and the next word of its function;
+    /// The address of the unit at a place, to which 1 was added, and the next unit of its function;
     /// or `None` for 0.
-    pub(crate) fn word_of(&self, next: u32) -> Option<(u32, u32)> {
+    pub(crate) fn unit_of(&self, next: u32) -> Option<(u32, u32)> {
         let place = next.checked_sub(1)?;
-        let address = self.base.wrapping_add(place.wrapping_mul(4));
+        let address = self
+            .base
+            .wrapping_add(place.wrapping_mul(self.unit.bytes()));
         Some((address, entry(&self.nexts, place as usize)))
     }
 
@@ -153,8 +162,8 @@ impl<'a> Code<'a> {
         self.base
     }
 
-    /// How many words there are from the lowest address of code on, up to 4 million.
-    pub fn words(&self) -> usize {
+    /// How many units there are from the lowest address of code on, up to 16 MiB.
+    pub fn units(&self) -> usize {
         self.owners.len()
     }
 
@@ -163,31 +172,31 @@ impl<'a> Code<'a> {
         &self.functions
     }
 
-    /// Whether a part has the word at an address.
-    pub fn has_word(&self, address: u32) -> bool {
+    /// Whether a part has the unit at an address.
+    pub fn has_unit(&self, address: u32) -> bool {
         for part in &self.parts {
-            if address.wrapping_sub(part.address) / 4 < part.words() {
+            if self.unit.count(address.wrapping_sub(part.address)) < part.units() {
                 return true;
             }
         }
         false
     }
 
-    /// The place of an address among the words from the base on.
+    /// The place of an address among the units from the base on.
     pub(crate) fn place_of(&self, address: u32) -> usize {
-        (address.wrapping_sub(self.base) / 4) as usize
+        self.unit.count(address.wrapping_sub(self.base)) as usize
     }
 
     /// The name of an address, if a symbol has it, as far as it is shown.
     pub fn name_at(&self, address: u32) -> Option<&'a [u8]> {
         let name = entry(&self.names, self.place_of(address));
-        if name == 0 || address % 4 != 0 {
+        if name == 0 || !self.unit.begins_at(address) {
             return None;
         }
         shown_part(&self.symbols?, name - 1)
     }
 
-    /// The number of the function that the word at an address belongs to: 1 more than its place
+    /// The number of the function that the unit at an address belongs to: 1 more than its place
     /// among the functions, or 0 where it belongs to none.
     pub fn owner_of(&self, address: u32) -> u32 {
         entry(&self.owners, self.place_of(address))
@@ -207,7 +216,7 @@ impl<'a> Code<'a> {
         }
     }
 
-    /// The function that the word at an address belongs to.
+    /// The function that the unit at an address belongs to.
     pub fn function_at(&self, address: u32) -> Option<Function<'a>> {
         let owner = self.owner_of(address);
         self.functions.get(owner.wrapping_sub(1) as usize).copied()

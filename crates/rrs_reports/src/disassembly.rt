@@ -3,11 +3,11 @@
 use crate::code::Code;
 use crate::coverage::Coverage;
 use crate::pieces::Pieces;
-use crate::sections::CodePart;
+use crate::sections::{CodePart, CodeUnit};
 use rrs_lib::disassembly::{Disassembled, hexadecimal_digits};
 use rrs_lib::instruction::{Instruction, decode};
 use rrs_lib::instruction_formats::{BType, JType};
-use rrs_words::{decode_layer, layer_text};
+use rrs_words::{decode_layer, decode_short, expanded, layer_text, short_text};
 use std::io::{self, Write};
 
 /// The address that an instruction jumps to, if it is a branch or `jal`.
@@ -56,28 +56,66 @@ fn write_word<W: Write>(out: &mut Pieces<'_, W>, code: &Code<'_>, address: u32, 
     }
 }
 
-/// Writes the lines of a part: a line for each symbol, and one for each word, with how often it was
-/// executed in front, if that is asked for.
+/// Writes the text of a half-word, and of a jump where it goes.
+fn write_half<W: Write>(out: &mut Pieces<'_, W>, code: &Code<'_>, address: u32, half: u16) {
+    let Some(short) = decode_short(half) else {
+        out.hexadecimal(".half 0x", 4, u32::from(half));
+        return;
+    };
+    out.text(short_text(&short, address).as_str());
+    if let Some(target) = target_of(&expanded(&short), address) {
+        write_place(out, code, target);
+    }
+}
+
+/// The word that begins with a unit, or `None` where the unit is an instruction by itself: a
+/// half-word whose low bits are not 11, or one without another half.
+fn word_from(part: &CodePart<'_>, index: u32, half: u16) -> Option<u32> {
+    if part.unit == CodeUnit::HalfWord && half % 4 != 3 {
+        return None;
+    }
+    part.word(index)
+}
+
+/// Writes the line of a symbol, if one names the address.
+fn write_name<W: Write>(out: &mut Pieces<'_, W>, code: &Code<'_>, address: u32) {
+    if let Some(name) = code.name_at(address) {
+        out.hexadecimal("\n", 8, address);
+        out.name(" <", name, ">:\n");
+    }
+}
+
+/// Writes the lines of a part: a line for each symbol, and one for each instruction, with how often
+/// it was executed in front, if that is asked for.
 fn write_part<W: Write>(
     out: &mut Pieces<'_, W>,
     code: &Code<'_>,
     part: &CodePart<'_>,
     counts: Option<&Coverage>,
 ) {
-    for index in 0..part.words() {
-        let address = part.address_of(index);
-        if let Some(name) = code.name_at(address) {
-            out.hexadecimal("\n", 8, address);
-            out.name(" <", name, ">:\n");
+    let mut is_second_half = false;
+    for index in 0..part.units() {
+        if is_second_half {
+            is_second_half = false;
+            continue;
         }
+        let address = part.address_of(index);
+        write_name(out, code, address);
         if let Some(coverage) = counts {
             out.column(12, coverage.count(address), "  ");
         }
-        let word = part.word(index).unwrap_or(0);
         out.right(8, hexadecimal_digits(1, address).as_str());
-        out.hexadecimal(":\t", 8, word);
-        out.text("          \t");
-        write_word(out, code, address, word);
+        let half = part.half(index).unwrap_or(0);
+        if let Some(word) = word_from(part, index, half) {
+            is_second_half = part.unit == CodeUnit::HalfWord;
+            out.hexadecimal(":\t", 8, word);
+            out.text("          \t");
+            write_word(out, code, address, word);
+        } else {
+            out.hexadecimal(":\t", 4, u32::from(half));
+            out.text("                \t");
+            write_half(out, code, address, half);
+        }
         out.text("\n");
     }
 }
@@ -97,9 +135,10 @@ fn write_title<W: Write>(out: &mut Pieces<'_, W>, code: &Code<'_>, part: &CodePa
 }
 
 /// Writes the disassembly of an executable, as `objdump -d` lays it out: of each part of the file
-/// that has code the symbols, the addresses, the words and the texts.
+/// that has code the symbols, the addresses, the words and the texts. Of compressed code a half-word
+/// whose low bits are not 11 is an instruction, which has 4 digits.
 ///
-/// The text of each word is proved (`Disassembled`). That the lines are those of the file's code is
+/// The text of each instruction is proved (`Disassembled`, `short_text`). That the lines are those of the file's code is
 /// tested alone: `examples/reports/check` compares them with those of `objdump -d`.
 ///
 /// # Errors

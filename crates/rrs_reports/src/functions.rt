@@ -1,6 +1,7 @@
-//! The functions of an executable, by the words that belong to each.
+//! The functions of an executable, by the units of code that belong to each.
 
 use crate::names::SHOWN_BYTES;
+use crate::sections::CodeUnit;
 use rrs_elf::{Symbol, Symbols};
 use std::alloc::AllocError;
 
@@ -24,10 +25,10 @@ pub fn shown_part<'a>(symbols: &Symbols<'a>, index: u32) -> Option<&'a [u8]> {
 
 /// How well a symbol names an address, whose name begins so: the highest is taken, and of equal
 /// ones the first. 0 is for symbols that name none.
-fn rank(symbol: &Symbol, name: &[u8]) -> u8 {
+fn rank(symbol: &Symbol, name: &[u8], unit: CodeUnit) -> u8 {
     let has_section = symbol.section > 0 && symbol.section < 0xff00;
     let is_mapping = matches!(name, [b'$', ..] | []);
-    if !has_section || is_mapping || symbol.value % 4 != 0 {
+    if !has_section || is_mapping || !unit.begins_at(symbol.value) {
         return 0;
     }
     let is_local = symbol.binding() == 0;
@@ -41,23 +42,23 @@ fn rank(symbol: &Symbol, name: &[u8]) -> u8 {
 }
 
 /// The rank of the symbol of a number less 1, 0 where there is none.
-fn rank_of(symbols: &Symbols<'_>, number: u32) -> u8 {
+fn rank_of(symbols: &Symbols<'_>, number: u32, unit: CodeUnit) -> u8 {
     let index = number.wrapping_sub(1);
     match (symbols.symbol(index), symbols.name_up_to(index, 1)) {
-        (Some(symbol), Some(name)) => rank(&symbol, name),
+        (Some(symbol), Some(name)) => rank(&symbol, name, unit),
         _ => 0,
     }
 }
 
-/// Gives each word from `base` on, whose names are 0, 1 and the number of the symbol that names its
+/// Gives each unit from `base` on, whose names are 0, 1 and the number of the symbol that names its
 /// address, if there is one.
-pub fn name_words(names: &mut [u32], symbols: &Symbols<'_>, base: u32) {
+pub fn name_units(names: &mut [u32], symbols: &Symbols<'_>, base: u32, unit: CodeUnit) {
     for index in 0..symbols.count() {
         if let Some(symbol) = symbols.symbol(index) {
             let number = index.wrapping_add(1);
-            let place = (symbol.value.wrapping_sub(base) / 4) as usize;
+            let place = unit.count(symbol.value.wrapping_sub(base)) as usize;
             if let Some(best) = names.get_mut(place) {
-                if rank_of(symbols, *best) < rank_of(symbols, number) {
+                if rank_of(symbols, *best, unit) < rank_of(symbols, number, unit) {
                     *best = number;
                 }
             }
@@ -65,13 +66,14 @@ pub fn name_words(names: &mut [u32], symbols: &Symbols<'_>, base: u32) {
     }
 }
 
-/// Adds the functions, in the order of their addresses, and of each word 1 and the number of the
+/// Adds the functions, in the order of their addresses, and of each unit 1 and the number of the
 /// function that it belongs to, or 0. A label within the range of a function begins none.
 pub fn add_functions<'a>(
     functions: &mut Vec<Function<'a>>,
     owners: &mut Vec<u32>,
     symbols: Option<Symbols<'a>>,
     base: u32,
+    unit: CodeUnit,
     names: &[u32],
 ) -> Result<(), AllocError> {
     let mut inside_until = base;
@@ -83,8 +85,8 @@ pub fn add_functions<'a>(
                 inside_until = function.end;
             }
         }
-        owners.push(owner_of(functions, address))?;
-        address = address.wrapping_add(4);
+        owners.push(owner_of(functions, address, unit))?;
+        address = address.wrapping_add(unit.bytes());
     }
     Ok(())
 }
@@ -105,14 +107,14 @@ fn named(symbols: Option<Symbols<'_>>, number: u32) -> Option<Function<'_>> {
     })
 }
 
-/// 1 and the number of the latest function, if the word at an address belongs to it: it is within
+/// 1 and the number of the latest function, if the unit at an address belongs to it: it is within
 /// its range, or the function has none and so goes on.
-fn owner_of(functions: &mut Vec<Function<'_>>, address: u32) -> u32 {
+fn owner_of(functions: &mut Vec<Function<'_>>, address: u32, unit: CodeUnit) -> u32 {
     let count = functions.len().min(u32::MAX as usize) as u32;
     match functions.last_mut() {
         Some(function) if address < function.end => count,
         Some(function) if !function.is_sized => {
-            function.end = address.saturating_add(4);
+            function.end = address.saturating_add(unit.bytes());
             count
         }
         _ => 0,

@@ -47,7 +47,7 @@ impl<'a, 'b> Profile<'a, 'b> {
     {
         Ok(Profile {
             code,
-            coverage: Coverage::new(alloc, code.base(), code.words())?,
+            coverage: Coverage::new(alloc, code.base(), code.units())?,
             calls: Calls::new(alloc, code)?,
         })
     }

@@ -1,5 +1,7 @@
 //! The parts of a file that have code: by its sections, or, where it has none, by its segments.
 
+ghost use Rattle.std.specs.Prelude.{◌≤◌, ◌/◌};
+
 use crate::names::SHOWN_BYTES;
 use rrs_elf::Executable;
 use std::alloc::AllocError;
@@ -9,31 +11,77 @@ const HAS_CODE: u32 = 4;
 /// The type of a section that has bytes in the file (`SHT_PROGBITS`).
 const HAS_BYTES: u32 = 1;
 
+/// What instructions lie in.
+#[derive(Debug, PartialEq, Clone, Copy)]
+pub enum CodeUnit {
+    /// Words at multiples of 4.
+    Word,
+    /// Half-words at even addresses, of which an instruction has one or two: compressed code.
+    HalfWord,
+}
+
+impl CodeUnit {
+    /// How many bytes a unit has.
+    pub(crate) fn bytes(self) -> u32
+        ensures { (2 ≤ result) × (result ≤ 4) }
+    {
+        match self {
+            CodeUnit::Word => 4,
+            CodeUnit::HalfWord => 2,
+        }
+    }
+
+    /// How many whole units so many bytes have.
+    #[inline]
+    pub(crate) fn count(self, bytes: u32) -> u32
+        ensures { result ≤ bytes / 2 }
+    {
+        match self {
+            CodeUnit::Word => bytes / 4,
+            CodeUnit::HalfWord => bytes / 2,
+        }
+    }
+
+    /// Whether a unit begins at an address.
+    pub(crate) fn begins_at(self, address: u32) -> bool {
+        address % self.bytes() == 0
+    }
+}
+
 /// A part of an executable that has code.
 #[derive(Clone, Copy)]
 pub struct CodePart<'a> {
     /// The name of the section, as far as it is shown, or none of a segment.
     pub name: &'a [u8],
-    /// The address of its first byte, a multiple of 4.
+    /// What its instructions lie in.
+    pub unit: CodeUnit,
+    /// The address of its first byte, at which a unit begins.
     pub address: u32,
     /// Its bytes.
     pub bytes: &'a [u8],
 }
 
 impl CodePart<'_> {
-    /// How many whole words it has.
-    pub fn words(&self) -> u32 {
-        (self.bytes.len() / 4).min(1 << 30) as u32
+    /// How many whole units it has.
+    pub fn units(&self) -> u32 {
+        self.unit
+            .count(self.bytes.len().min(u32::MAX as usize) as u32)
     }
 
-    /// The word of this number.
+    /// The word that begins with the unit of this number.
     pub fn word(&self, index: u32) -> Option<u32> {
-        word_at(self.bytes, index as usize * 4)
+        word_at(self.bytes, index as usize * self.unit.bytes() as usize)
     }
 
-    /// The address of the word of this number.
+    /// The half-word that the unit of this number begins with.
+    pub fn half(&self, index: u32) -> Option<u16> {
+        half_at(self.bytes, index as usize * self.unit.bytes() as usize)
+    }
+
+    /// The address of the unit of this number.
     pub fn address_of(&self, index: u32) -> u32 {
-        self.address.wrapping_add(index.wrapping_mul(4))
+        self.address
+            .wrapping_add(index.wrapping_mul(self.unit.bytes()))
     }
 }
 
@@ -55,9 +103,9 @@ fn word_at(file: &[u8], offset: usize) -> Option<u32> {
 }
 
 /// The half-word at an offset, the lowest byte first.
-fn half_at(file: &[u8], offset: usize) -> Option<u32> {
+fn half_at(file: &[u8], offset: usize) -> Option<u16> {
     match behind(file, offset) {
-        [a, b, ..] => Some(u32::from(*a) + 256 * u32::from(*b)),
+        [a, b, ..] => Some(u16::from(*a) + 256 * u16::from(*b)),
         _ => None,
     }
 }
@@ -92,51 +140,60 @@ fn header_of(file: &[u8], index: u32) -> Option<[u32; 6]> {
 /// The bytes of the name of a section that are shown, and one more, if there are more, by the
 /// section with the names: it begins there at a place.
 fn name_of(file: &[u8], place: u32) -> Option<&[u8]> {
-    let [.., offset, size] = header_of(file, half_at(file, 50)?)?;
+    let [.., offset, size] = header_of(file, u32::from(half_at(file, 50)?))?;
     let names = behind(bytes_at(file, offset, size), place as usize);
     Some(text_of(&names[..names.len().min(SHOWN_BYTES + 1)]))
 }
 
 /// The code of a section, if it has some.
-fn section_part(file: &[u8], index: u32) -> Option<CodePart<'_>> {
+fn section_part(file: &[u8], unit: CodeUnit, index: u32) -> Option<CodePart<'_>> {
     let [name, kind, flags, address, offset, size] = header_of(file, index)?;
-    if kind != HAS_BYTES || flags / HAS_CODE % 2 == 0 || address % 4 != 0 {
+    if kind != HAS_BYTES || flags / HAS_CODE % 2 == 0 || !unit.begins_at(address) {
         return None;
     }
     Some(CodePart {
         name: name_of(file, name)?,
+        unit,
         address,
         bytes: bytes_at(file, offset, size),
     })
 }
 
 /// The code of a segment, if it has some.
-fn segment_part<'a>(file: &'a [u8], program: &Executable<'a>, index: u16) -> Option<CodePart<'a>> {
+fn segment_part<'a>(
+    file: &'a [u8],
+    program: &Executable<'a>,
+    unit: CodeUnit,
+    index: u16,
+) -> Option<CodePart<'a>> {
     let header = program.program_header(index)?;
-    if !header.is_loaded() || !header.is_executable() || header.address % 4 != 0 {
+    if !header.is_loaded() || !header.is_executable() || !unit.begins_at(header.address) {
         return None;
     }
     Some(CodePart {
         name: &[],
+        unit,
         address: header.address,
         bytes: bytes_at(file, header.offset, header.file_size),
     })
 }
 
-/// Adds the parts of a file that have code, in the order of the file's headers.
+/// Adds the parts of a file that have code, which lies in such units, in the order of the file's
+/// headers.
 pub fn add_code_parts<'a>(
     parts: &mut Vec<CodePart<'a>>,
     file: &'a [u8],
     program: &Executable<'a>,
+    unit: CodeUnit,
 ) -> Result<(), AllocError> {
     for index in 0..half_at(file, 48).unwrap_or(0) {
-        if let Some(part) = section_part(file, index) {
+        if let Some(part) = section_part(file, unit, u32::from(index)) {
             parts.push(part)?;
         }
     }
     if parts.is_empty() {
         for index in 0..program.program_header_count() {
-            if let Some(part) = segment_part(file, program, index) {
+            if let Some(part) = segment_part(file, program, unit, index) {
                 parts.push(part)?;
             }
         }

@@ -42,7 +42,7 @@ impl Profile<'_, '_> {
         };
         let mut next = self.code.first_of(number);
         for _ in 0..u32::MAX {
-            let Some((address, behind)) = self.code.word_of(next) else {
+            let Some((address, behind)) = self.code.unit_of(next) else {
                 break;
             };
             let steps = self.coverage.count(address);

@@ -2,8 +2,8 @@
 
 use crate::files::{buffered, read_program, unwritten};
 use crate::refusal::{Refusal, no_executable, out_of_memory};
-use rrs_elf::{Addresses, Executable};
-use rrs_reports::{Code, write_disassembly};
+use rrs_elf::{Addresses, ElfError, Executable};
+use rrs_reports::{Code, CodeUnit, write_disassembly};
 use std::alloc::{AllocError, Global};
 use std::io::{self, Write};
 use std::rt::Files;
@@ -20,6 +20,17 @@ pub(crate) fn code_of<'a, 'f>(
     file: &'f [u8],
     addresses: Addresses,
 ) -> Result<Code<'f>, Refusal<'a>> {
+    code_in_units(alloc, path, file, addresses, CodeUnit::Word)
+}
+
+/// The same of an executable whose instructions lie in such units.
+fn code_in_units<'a, 'f>(
+    alloc: Global,
+    path: &'a str,
+    file: &'f [u8],
+    addresses: Addresses,
+    unit: CodeUnit,
+) -> Result<Code<'f>, Refusal<'a>> {
     let program = match Executable::parse_at(file, addresses) {
         Ok(program) => program,
         Err(error) => return Err(no_executable(path, file, error)),
@@ -28,7 +39,7 @@ pub(crate) fn code_of<'a, 'f>(
         Ok(symbols) => symbols,
         Err(error) => return Err(no_executable(path, file, error)),
     };
-    match Code::new(alloc, file, &program, symbols) {
+    match Code::new(alloc, file, &program, symbols, unit) {
         Ok(code) => Ok(code),
         Err(AllocError) => Err(out_of_memory()),
     }
@@ -48,7 +59,25 @@ pub(crate) fn flushed<'a, W: Write>(
     }
 }
 
-/// Writes the disassembly of an executable.
+/// Makes the file of an executable with compressed code one that `Executable` accepts, and says what
+/// its instructions lie in.
+///
+/// Nothing that a disassembly shows is changed: the flag of such code in `e_flags` is cleared, and
+/// so is bit 1 of the entry, which may be any even address there.
+fn without_flag(file: &mut [u8]) -> CodeUnit {
+    let Err(ElfError::CompressedCode) = Executable::parse(file) else {
+        return CodeUnit::Word;
+    };
+    if let Some(flags) = file.get_mut(36) {
+        *flags &= 0xfe;
+    }
+    if let Some(entry) = file.get_mut(24) {
+        *entry &= 0xfd;
+    }
+    CodeUnit::HalfWord
+}
+
+/// Writes the disassembly of an executable, also of one with compressed code.
 ///
 /// # Errors
 ///
@@ -58,8 +87,9 @@ pub fn disassemble_file<'a, H: Files + AllocGlobal, O: Write>(
     path: &'a str,
     out: &mut O,
 ) -> Result<(), Refusal<'a>> {
-    let file = read_program(rt, path)?;
-    let code = code_of(rt.alloc(), path, &file, Addresses::Virtual)?;
+    let mut file = read_program(rt, path)?;
+    let unit = without_flag(&mut file);
+    let code = code_in_units(rt.alloc(), path, &file, Addresses::Virtual, unit)?;
     let mut out = buffered(rt.alloc(), out)?;
     let written = write_disassembly(&mut out, path, &code);
     flushed(written, &mut out)
