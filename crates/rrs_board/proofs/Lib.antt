@@ -2,6 +2,7 @@
 pub mod RegisterBytes
 pub mod BoardBytes
 pub mod Sessions
+pub mod InputReads
 pub mod Loaded
 pub mod RamSteps
 pub mod RamWords

@@ -1,5 +1,5 @@
 -- A session at a terminal: where it starts, what one event more makes of it, and how it ends.
-use Rattle.std.proofs.Common.{◌≡◌, ℕ, Bool, true, false, inr, MatchOption, Result, Ok, Err, IfOk, IfErr, ◌+◌, ◌-◌, List, [], ◌∷◌, ◌++◌, Option, Some, None, IfSome, refl, sym, subst, append-nil}
+use Rattle.std.proofs.Common.{◌≡◌, ℕ, Bool, true, false, inr, Result, Ok, Err, IfOk, IfErr, ◌+◌, ◌-◌, List, [], ◌++◌, Option, Some, None, IfSome, refl, sym, subst, append-nil}
 use Rattle.std.specs.Io.KnownBytes.{Appends, Consumes, Keeps, IsAtEnd}
 use Rattle.std.proofs.KnownBytes.{Consumes-nil, Appends-nil, Appends-trans, Appends-kept, Consumes-trans, Consumes-whole, Keeps-refl}
 use Rattle.rrs_board.specs.declared.asking.Asking.{Asking}
@@ -84,18 +84,6 @@ none_waits b steps (Ok end) is = λ at. absurd (cc (at, is.1))
 pub run_is : {V : Type 0} (runs : Runner V) (v w : V) (made most more : ℕ) (old mid : Board) (e f : Option BoardEvent)
     → runs v made most old more e mid w → e ≡ f → runs v made most old more f mid w
 run_is runs v w made most more old mid e f run is = subst (λ x. runs v made most old more x mid w) is run
-
--- what a later read gives
-pub given_later : (input between rest : Option (List ℕ)) (byte : Option ℕ)
-    → Consumes input between []
-    → MatchOption byte (Consumes between rest [] × IsAtEnd rest)
-    (λ b. Consumes between rest (b ∷ []))
-    → MatchOption byte (Consumes input rest [] × IsAtEnd rest)
-    (λ b. Consumes input rest (b ∷ []))
-given_later input between rest None none given =
-    (Consumes-trans input between rest [] [] none given.0, given.1)
-given_later input between rest (Some b) none given =
-    Consumes-trans input between rest [] (b ∷ []) none given
 
 -- ---- sessions
 

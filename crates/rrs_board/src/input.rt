@@ -1,10 +1,9 @@
 //! The input of a board: what is asked for a byte, and says whether one came.
 
-ghost use Rattle.std.specs.Prelude.{◌≡◌, ◌≢◌, false, IfErr};
+ghost use Rattle.std.specs.Prelude.{◌≡◌, false};
 ghost use Rattle.std.specs.Io.{ReadsAtMost};
 ghost use Rattle.std.specs.Io.KnownBytes.{ReadConsumes};
-ghost use Rattle.std.specs.IoError.{error_kind};
-ghost use Rattle.rrs_board.specs.Inputs.{Reads};
+ghost use Rattle.rrs_board.specs.Inputs.{Answers, Gives, Reads};
 
 use std::io::{self, ErrorKind, Read};
 
@@ -37,7 +36,6 @@ pub trait BoardInput {
     ghost use Rattle.std.specs.Prelude.{ℕ, List, Option};
     ghost use Rattle.rrs_board.specs.declared.input.Patience.{Patience as ThePatience};
     ghost use Rattle.rrs_board.specs.declared.input.InputAnswer.{InputAnswer as TheAnswer};
-    ghost use Rattle.rrs_board.specs.Inputs.{Gives};
 
     /// The bytes that are still to come, where they are known.
     ghost remaining: { Self → Option (List ℕ) };
@@ -52,11 +50,56 @@ pub trait BoardInput {
         ensures bytes { Gives result (remaining self.old) (remaining self.new) };
 }
 
-/// A reader as the input of a board. It is read byte by byte: a read of no bytes is the end, one
+/// What is read byte by byte: a reader, or what says more of its reads than the contract of std's
+/// `Read` does.
+pub trait ByteSource {
+    ghost use Rattle.std.specs.Prelude.{ℕ, List, Option, Result};
+    ghost use Rattle.std.specs.declared.io.Error.{Error};
+    ghost use Rattle.rrs_board.specs.declared.input.Patience.{Patience as ThePatience};
+
+    /// The bytes that are still to come, where they are known.
+    ghost remaining: { Self → Option (List ℕ) };
+
+    /// That one read was made with this patience and gave this, by the source before and after it.
+    ghost reads: { Self → ThePatience → Result (Option ℕ) Error → Self → Type 0 };
+
+    /// Reads once, and gives a byte, or `None` at the end. An error of the kind
+    /// `ErrorKind::WouldBlock` says that none came yet.
+    fn read_byte(&mut self, patience: Patience) -> io::Result<Option<u8>>
+        ensures made { reads self.old patience result self.new }
+        ensures bytes { Reads result (remaining self.old) (remaining self.new) };
+}
+
+/// A reader is read with a buffer of one byte.
+impl<R: Read> ByteSource for R {
+    ghost remaining = { R.remaining };
+
+    // The contract of `Read` has no word for a read that was made: only its bytes are told.
+    ghost reads = { λ old patience result new. Reads result (R.remaining old) (R.remaining new) };
+
+    fn read_byte(&mut self, patience: Patience) -> io::Result<Option<u8>> {
+        let mut buffer = [0];
+        let count = read_within(self, &mut buffer, patience)?;
+        Ok((count != 0).then_some(buffer[0]))
+    }
+}
+
+/// Reads once. The read waits for as long as the host makes it: to ask whether it would wait a
+/// program needs a handle on waiting, and none is allowed here.
+fn read_within<R: Read>(reader: &mut R, buffer: &mut [u8], patience: Patience) -> io::Result<usize>
+    ensures bound { ReadsAtMost result buffer.new }
+    ensures bytes { ReadConsumes (R.remaining reader.old) (R.remaining reader.new) result
+        buffer.new }
+{
+    let _ = patience;
+    reader.read(buffer)
+}
+
+/// A source of bytes, such as a reader, as the input of a board. A read of no byte is the end, one
 /// that would block says that nothing came, and one that is interrupted is made again.
 #[derive(Drop)]
 pub struct Typed<R> {
-    /// The reader.
+    /// The source.
     pub reader: R,
     /// Whether each read waits for a byte or the end, however much patience is asked for.
     pub waits: bool,
@@ -74,12 +117,12 @@ impl<R> Typed<R> {
     }
 }
 
-impl<R: Read> BoardInput for Typed<R> {
-    ghost use Rattle.rrs_board.specs.Inputs.{reader_says};
+impl<R: ByteSource> BoardInput for Typed<R> {
+    ghost use Rattle.rrs_board.specs.Inputs.{ReaderSays};
 
     ghost remaining = { λ typed. R.remaining typed.reader };
 
-    ghost says = { reader_says R.remaining };
+    ghost says = { ReaderSays R.reads R.remaining };
 
     fn ask(&mut self, patience: Patience) -> InputAnswer {
         let patience = if self.waits {
@@ -87,49 +130,26 @@ impl<R: Read> BoardInput for Typed<R> {
         } else {
             patience
         };
-        match read_byte(&mut self.reader, patience) {
-            Ok(Some(byte)) => InputAnswer::Byte(byte),
-            Ok(None) => InputAnswer::Ended,
-            Err(error) if error.kind() == ErrorKind::WouldBlock => InputAnswer::Nothing,
-            Err(_) => InputAnswer::Failed,
-        }
+        ask_source(&mut self.reader, patience)
     }
 }
 
-/// The next byte, or `None` at the end. A read that is interrupted is made again.
-fn read_byte<R: Read>(reader: &mut R, patience: Patience) -> io::Result<Option<u8>>
-    ensures byte { Reads result (R.remaining reader.old) (R.remaining reader.new) }
-    ensures again { IfErr result (λ error. error_kind error ≢ ErrorKind.Interrupted) }
+/// Reads, again where a read is interrupted, and gives the answer of the read that is not.
+fn ask_source<R: ByteSource>(source: &mut R, patience: Patience) -> InputAnswer
+    ensures answers { Answers R.reads patience source.old result source.new }
+    ensures bytes { Gives result (R.remaining source.old) (R.remaining source.new) }
 {
-    for _ in 0..u64::MAX {
-        match read_once(reader, patience) {
-            Ok(byte) => return Ok(byte),
-            Err(error) => {
-                if error.kind() != ErrorKind::Interrupted {
-                    return Err(error);
-                }
-            }
+    let mut interrupted = 0;
+    while interrupted < u64::MAX {
+        match source.read_byte(patience) {
+            Ok(Some(byte)) => return InputAnswer::Byte(byte),
+            Ok(None) => return InputAnswer::Ended,
+            Err(error) => match error.kind() {
+                ErrorKind::Interrupted => interrupted += 1,
+                ErrorKind::WouldBlock => return InputAnswer::Nothing,
+                _ => return InputAnswer::Failed,
+            },
         }
     }
-    Err(io::Error::from(ErrorKind::TimedOut))
-}
-
-/// Reads once: a byte, or `None` at the end.
-fn read_once<R: Read>(reader: &mut R, patience: Patience) -> io::Result<Option<u8>>
-    ensures { Reads result (R.remaining reader.old) (R.remaining reader.new) }
-{
-    let mut buffer = [0];
-    let count = read_within(reader, &mut buffer, patience)?;
-    Ok((count != 0).then_some(buffer[0]))
-}
-
-/// Reads once. The read waits for as long as the host makes it: to ask whether it would wait a
-/// program needs a handle on waiting, and none is allowed here.
-fn read_within<R: Read>(reader: &mut R, buffer: &mut [u8], patience: Patience) -> io::Result<usize>
-    ensures bound { ReadsAtMost result buffer.new }
-    ensures bytes { ReadConsumes (R.remaining reader.old) (R.remaining reader.new) result
-        buffer.new }
-{
-    let _ = patience;
-    reader.read(buffer)
+    InputAnswer::Failed
 }

@@ -30,7 +30,7 @@ pub use asking::Asking;
 pub use board::{Board, BoardEnd, BoardStep};
 pub use devices::{DeviceAccess, Devices};
 pub use effects::BoardEvent;
-pub use input::{BoardInput, InputAnswer, Patience, Typed};
+pub use input::{BoardInput, ByteSource, InputAnswer, Patience, Typed};
 pub use loading::BoardError;
 pub use memory::BoardMemory;
 pub use rrs_machine::Profile;

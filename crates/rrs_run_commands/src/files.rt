@@ -5,6 +5,7 @@ ghost use Rattle.std.specs.Int.{from_le_bytes, w64};
 ghost use Rattle.std.specs.Io.KnownBytes.{Consumes};
 
 use crate::refusal::{FileFault, HostFault, Refusal, out_of_memory};
+use rrs_board::{ByteSource, Patience};
 use std::alloc::Global;
 use std::fs;
 use std::io::{self, BufWriter, ErrorKind, Read, Write};
@@ -216,12 +217,14 @@ impl<S> Noting<S> {
     }
 }
 
-/// What is read is what the stream gives.
-impl<S: Read> Read for Noting<S> {
+/// What is read is what the stream gives, by one read of it.
+impl<S: ByteSource> ByteSource for Noting<S> {
     ghost remaining = { λ noting. S.remaining noting.stream };
 
-    fn read(&mut self, buf: &mut [u8]) -> io::Result<usize> {
-        let read = self.stream.read(buf);
+    ghost reads = { λ old patience result new. S.reads old.stream patience result new.stream };
+
+    fn read_byte(&mut self, patience: Patience) -> io::Result<Option<u8>> {
+        let read = self.stream.read_byte(patience);
         if let Err(error) = &read {
             self.fault = Some(fault_of(error));
         }
