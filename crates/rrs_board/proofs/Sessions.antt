@@ -1,6 +1,6 @@
 -- A session at a terminal: where it starts, what one event more makes of it, and how it ends.
 use Rattle.std.proofs.Common.{◌≡◌, ℕ, Bool, true, false, inr, Result, Ok, Err, IfOk, IfErr, ◌+◌, ◌-◌, List, [], ◌++◌, Option, Some, None, IfSome, refl, sym, subst, append-nil}
-use Rattle.std.specs.Io.KnownBytes.{Appends, Consumes, Keeps, IsAtEnd}
+use Rattle.std.specs.Io.KnownBytes.{Consumes, Keeps, IsAtEnd}
 use Rattle.std.proofs.KnownBytes.{Consumes-nil, Appends-nil, Appends-trans, Appends-kept, Consumes-trans, Consumes-whole, Keeps-refl}
 use Rattle.rrs_board.specs.declared.asking.Asking.{Asking}
 use Rattle.rrs_board.specs.declared.board.Board.{Board}
@@ -8,9 +8,9 @@ use Rattle.rrs_board.specs.declared.board.BoardEnd.{BoardEnd}
 use Rattle.rrs_board.specs.declared.effects.BoardEvent.{BoardEvent}
 use Rattle.rrs_board.specs.declared.effects.BoardEvent.TheVariants.{Transmitted, Looked, Finished, Waits, NothingWakes, Spins, LacksHandler, Restarts}
 use Rattle.rrs_board.specs.declared.input.InputAnswer.{InputAnswer}
-use Rattle.rrs_board.specs.declared.input.InputAnswer.TheVariants.{Nothing, Failed}
+use Rattle.rrs_board.specs.declared.input.InputAnswer.TheVariants.{Nothing}
 use Rattle.rrs_board.specs.declared.terminal.TerminalError.{TerminalError}
-use Rattle.rrs_board.specs.declared.terminal.TerminalError.TheVariants.{Input, Output}
+use Rattle.rrs_board.specs.declared.terminal.TerminalError.TheVariants.{Output}
 use Rattle.rrs_board.specs.Effects.{waits_for_input}
 use Rattle.rrs_board.specs.Inputs.{Listener, typed_by}
 use Rattle.rrs_board.specs.Terminals.{Runner, printed_by, ended_after, asking_after, HearsAt, HearsLast, HearsStopped, Goes, Session, Served, ServedAndRun, EndsSession, EndedSession, StoppedSession, GoesOn, EndsBy, Untouched, Ends, Fails}
