@@ -1,5 +1,5 @@
 -- A chain of steps goes on by one step, and is the only one to its end, by any step relation that has one step in each state.
-use Rattle.std.proofs.Common.{◌≡◌, ℕ, zero, suc, ◌+◌, ◌<◌, List, [], ◌∷◌, ◌++◌, length, Bool, replicate, Option, Some, None, Ok, Err, refl, sym, subst, ap, ◌∙◌, append-nil, arith}
+use Rattle.std.proofs.Common.{◌≡◌, ℕ, zero, suc, ◌+◌, ◌<◌, ◌≤◌, List, [], ◌∷◌, ◌++◌, length, Bool, replicate, Option, Some, None, Ok, Err, refl, sym, subst, ap, ◌∙◌, append-nil, arith}
 use Rattle.std.proofs.lemmas.List.{append_assoc, replicate_more}
 use Rattle.rrs_memory.specs.declared.MemAccessSize.{MemAccessSize}
 use Rattle.rrs_memory.specs.AccessLists.{Access, MakesExactly}
@@ -17,6 +17,11 @@ module _ {S : Type 0} (steps : S → S → StepAnswer → Type 0) where
   pub ChainOk-more : (s m t : S) (n : ℕ) → ChainOk steps n s m → steps m t (Ok tt) → ChainOk steps (n + 1) s t
   ChainOk-more s m t n run step =
       subst (λ (x : List StepAnswer). Chain steps s x t) (replicate_more n (Ok tt)) (Chain-more s m t (replicate n (Ok tt)) (Ok tt) run step)
+
+  -- what holds where a step is made next holds at first: of a chain that is empty, or by what is known
+  pub at_first : (P : S → Type 0) (n : ℕ) (s t : S) → ChainOk steps n s t → (1 ≤ n → P s) → P t → P s
+  at_first P zero s t run before next = subst P run next
+  at_first P (suc n) s t run before next = before (omega arith)
 
   module _ (touches : S → List Access → Type 0) (one : IsOneStep steps touches) where
     -- ---- its accesses

@@ -1,5 +1,5 @@
 mod AnyBytes
 pub mod OneLayer
-mod HartSteps
-mod Chains
-mod HartRuns
+pub mod HartSteps
+pub mod Chains
+pub mod HartRuns

@@ -18,4 +18,4 @@ pub use atomics::execute_atomic;
 pub use bytes::{ByteAccess, access_by_bytes};
 pub use profile::{HartProfile, decode_in};
 pub use runs::run_hart;
-pub use step::step_hart;
+pub use step::{execute_word, step_hart};

@@ -1,4 +1,5 @@
-use Rattle.std.proofs.Common.{replicate, Ok}
+use Rattle.std.proofs.Common.{◌≡◌, ◌%◌, ◌≤◌, replicate, Ok}
+use Rattle.rrs_lib.specs.Bytes.{EndsAtLastAddress}
 use Rattle.rrs_lib.specs.Executor.{state_in, KeepsTheRest}
 use Rattle.rrs_lib.specs.Steps.{StepAnswer}
 use Rattle.rrs_lib.specs.Accesses.{MakesExactly}
@@ -16,4 +17,6 @@ invariant-loop-steps g l =
       runs : ChainOk (HartStep l.fn.profile) l.steps first now;
       accesses : MakesExactly memory.reads memory.writes (AccessesOfHartRun l.fn.profile first (replicate {A = StepAnswer} l.steps (Ok tt))) l.fn.executor.mem.now l.executor.mem.now;
       rest : KeepsTheRest memory.layout l.fn.executor l.executor;
+      ends : 1 ≤ l.steps → l.fn.executor.hart_state.now.pc % 4 ≡ 0
+          → EndsAtLastAddress (memory.bytes l.fn.executor.mem.now) (memory.writable l.fn.executor.mem.now);
     }
