@@ -1,3 +1,4 @@
+pub mod IllegalWords
 mod AnyBytes
 pub mod OneLayer
 pub mod HartSteps
