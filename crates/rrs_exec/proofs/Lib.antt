@@ -10,5 +10,5 @@ pub mod ProcessAccesses
 pub mod Stretches
 pub mod Telling
 pub mod MendedSteps
-pub mod MendedRuns
+pub mod MendedHarts
 pub mod MendedTold

@@ -1,5 +1,5 @@
 -- What it is to run an executable as a process that makes system calls.
-use Rattle.std.specs.Prelude.{◌≡◌, ℕ, Bool, List, ◌∷◌, replicate, None}
+use Rattle.std.specs.Prelude.{◌≡◌, ℕ, Bool, true, false, not, List, ◌∷◌, replicate, Option, None}
 use Rattle.rrs_lib.specs.Bytes.{ByteMap}
 use Rattle.rrs_lib.specs.AccessLists.{Access}
 use Rattle.rrs_lib.specs.Machine.{State}
@@ -10,11 +10,28 @@ use Rattle.rrs_exec.specs.Protection.{bytes_under, writable_under}
 use Rattle.rrs_exec.specs.Images.{IsImage, Filled}
 use Rattle.rrs_exec.specs.ProcessMemories.{lies_between, zeros_between}
 use Rattle.rrs_fast.specs.declared.serving.Ending.{Ending}
+use Rattle.rrs_fast.specs.Serving.{Relation, HartServed}
+use Rattle.rrs_hart.specs.declared.profile.HartProfile.{HartProfile}
+use Rattle.rrs_hart.specs.Harts.{hart_with}
 use Rattle.rrs_linux.specs.declared.Heap.{Heap}
 use Rattle.rrs_linux.specs.declared.Process.{Process}
 use Rattle.rrs_linux.specs.declared.host_writer.HostWriter.{HostWriter}
 use Rattle.rrs_linux.specs.declared.host_side.HostSide.{HostSide}
-use Rattle.rrs_exec.specs.Mending.{Chain}
+
+-- the hart of a process: it has extension A, and misaligned loads and stores, unless these are strict
+abbrev pub process_profile : Bool → HartProfile
+process_profile strict = record { atomics = true; fence_i = false; misaligned = not strict }
+
+-- What a run of a program does: how it ends, the environment and the state then, within a limit,
+-- from an environment and a state, after so many steps, with these accesses.
+abbrev pub Chain : Type 0 → Type 1
+Chain E = Ending → E → State → ℕ → E → State → ℕ → List Access → Type 0
+
+-- The hart of a process runs and is served, with no address reserved where it begins.
+abbrev pub Executing : {E : Type 0} → Relation E → Bool → Chain E
+Executing serves strict ending e' t limit e s steps accesses =
+    (reserved : Option ℕ) × HartServed (process_profile strict) serves ending e' (hart_with t reserved)
+    limit e (hart_with s None) steps accesses
 
 -- a hart at its entry, all of whose registers are 0 but x2, which is sp
 abbrev pub started : ℕ → ℕ → ByteMap → (ℕ → Bool) → State

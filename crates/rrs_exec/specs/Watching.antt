@@ -1,5 +1,4 @@
--- Runs of which each step is shown: to a watcher, with the record of what the step retired. They
--- are runs that are mended.
+-- Runs of which each step is shown: to a watcher, with the record of what the step retired.
 use Rattle.std.specs.Prelude.{◌≡◌, ℕ, ◌+◌, ◌≤◌, List, ◌++◌, Bool, true, false, Option, Some, None, Result, Ok, Err}
 use Rattle.rrs_lib.specs.declared.instruction_executor.InstructionException.{InstructionException}
 use Rattle.rrs_lib.specs.declared.instruction_executor.InstructionException.TheVariants.{EnvironmentCall}
@@ -10,7 +9,7 @@ use Rattle.rrs_lib.specs.Steps.{Step, StepAnswer}
 use Rattle.rrs_trace.specs.declared.retired.Retired.{Retired}
 use Rattle.rrs_trace.specs.Retired.{Retires}
 use Rattle.rrs_exec.specs.declared.image.Image.{Image}
-use Rattle.rrs_exec.specs.Mending.{Mended, Mending}
+use Rattle.rrs_exec.specs.Mending.{Mended}
 use Rattle.rrs_exec.specs.MendedRecords.{RetiresMended}
 use Rattle.rrs_exec.specs.Protection.{bytes_under, writable_under}
 use Rattle.rrs_fast.specs.declared.serving.Ending.{Ending}
@@ -20,7 +19,7 @@ use Rattle.rrs_linux.specs.declared.Process.{Process}
 use Rattle.rrs_linux.specs.declared.host_writer.HostWriter.{HostWriter}
 use Rattle.rrs_linux.specs.declared.host_side.HostSide.{HostSide}
 use Rattle.rrs_linux.specs.SystemCalls.{Serves}
-use Rattle.rrs_exec.specs.Processes.{started, heap_of, RunsImage, RunsProcess}
+use Rattle.rrs_exec.specs.Processes.{Executing, started, heap_of, RunsImage, RunsProcess}
 
 -- What a step of a program answers: None where the program goes on, the status with which a call
 -- ended it, or the exception.
@@ -109,15 +108,15 @@ module _ {E V : Type 0} (serves : Relation E) (sees : V → Retired → V → Ty
         → ending ≡ Fault fault
         → Shown e s v ending steps e' t v'
 
-  -- A run that is served and mended within the limit, or, where the watcher wants no more, within
-  -- fewer steps, and each of its steps is shown.
+  -- The hart of a process runs and is served within the limit, or, where the watcher wants no more,
+  -- within fewer steps, and each of its steps is shown.
   pub record IsWatched (limit : ℕ) (e : E) (s : State) (v : V)
-      (steps : ℕ) (ending : Ending) (e' : E) (t : State) (v' : V) (accesses : List Access)
-      : Type 0 where
+      (steps : ℕ) (ending : Ending) (e' : E) (t : State) (v' : V) : Type 0 where
     pub most : ℕ
     pub within : most ≤ limit
     pub all : wants v' ≡ true → most ≡ limit
-    pub served : Mending serves false ending e' t most e s steps accesses
+    pub accesses : List Access
+    pub served : Executing serves false ending e' t most e s steps accesses
     pub shown : Shown e s v ending steps e' t v'
 
 -- the machine at the entry of an image, in a memory of these bytes under its marks
@@ -138,7 +137,7 @@ module _ {R W E V : Type 0} (remaining : R → Option (List ℕ))
     pub most : ℕ
     pub within : most ≤ limit
     pub all : wants v' ≡ true → most ≡ limit
-    pub runs : RunsImage (Mending (Serves remaining contents errors_of) false)
+    pub runs : RunsImage (Executing (Serves remaining contents errors_of) false)
         image bytes writable most old new steps pc ending
     pub shown : Shown (Serves remaining contents errors_of) sees wants
         (record old { heap = heap_of image }) (start_in image bytes writable) v
@@ -152,7 +151,7 @@ module _ {R W E V : Type 0} (remaining : R → Option (List ℕ))
     pub most : ℕ
     pub within : most ≤ limit
     pub all : wants v' ≡ true → most ≡ limit
-    pub runs : RunsProcess (Mending (Serves remaining contents errors_of) false)
+    pub runs : RunsProcess (Executing (Serves remaining contents errors_of) false)
         file arguments variables wanted most old new steps pc ending
     pub shown : Shown (Serves remaining contents errors_of) sees wants
         (record old { heap = heap_of runs.image })

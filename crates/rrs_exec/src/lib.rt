@@ -10,9 +10,9 @@
 //!
 //! [load_process] makes a process of the bytes of an ELF file: its image, and its memory.
 //! [execute_process] runs it and serves its system calls. What that is, is written in
-//! `specs/Processes.antt`. It is a run of [run_mended], which carries out misaligned loads and
-//! stores and the instructions of extension A, as `specs/Mending.antt` says. [watch_process] runs a
-//! process so too, and shows each step to a [Watcher], as `specs/Watching.antt` says. Both tell a
+//! `specs/Processes.antt`: a run of a hart that has extension A, and misaligned loads and stores.
+//! [watch_process] runs a process so too, and shows each step to a [Watcher], as
+//! `specs/Watching.antt` says; it carries out such an instruction by [mend]. Both tell a
 //! [Progress] of the steps, of which their contracts say nothing, and that of [InPieces] all.
 
 #![tactic(auto)]
@@ -31,10 +31,10 @@ mod watching;
 pub use image::{Image, ImageError, image_of, needed_memory};
 pub use layout::{Layout, layout_of};
 pub use marks::{PAGE_BYTES, PageRange, Protection, marks_of};
-pub use mending::{mend, run_mended};
+pub use mending::mend;
 pub use process::{
     DECODED_WORDS, KeptMemory, LoadedProcess, ProcessEnd, WATCHED_WORDS, execute_process,
-    load_process, serve_image, started,
+    load_process, process_profile, serve_image, started,
 };
 pub use process_memory::ProcessMemory;
 pub use progress::{InPieces, NoProgress, Progress};

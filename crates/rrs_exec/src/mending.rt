@@ -1,9 +1,8 @@
-//! Runs of programs whose misaligned loads and stores, and whose instructions of extension A, are
-//! carried out.
+//! Misaligned loads and stores, and instructions of extension A, after the kit's step.
 //!
-//! The kit's step faults at these. [mend] carries out the instruction that it faulted at, and
-//! [run_mended] is a served run that goes on so. What both do is written in `specs/Mending.antt`.
-//! [mend_retired] tells what the instruction retired, as `specs/MendedRecords.antt` says.
+//! The kit's step faults at these. [mend] carries out the instruction that it faulted at, as
+//! `specs/Mending.antt` says. [mend_retired] tells what the instruction retired, as
+//! `specs/MendedRecords.antt` says.
 
 ghost use Rattle.std.specs.Prelude.{◌≡◌, ℕ, ◌<◌, ◌≤◌, false, Bool, Option, Some, Ok, IfOk, ◌∷◌, slice_index};
 ghost use Rattle.rrs_instruction.specs.Encodings.{R, HasRegisters};
@@ -15,14 +14,12 @@ ghost use Rattle.rrs_fast.specs.Serving.{MakesSome};
 ghost use Rattle.rrs_hart.specs.Anywhere.{answer_of};
 ghost use Rattle.rrs_hart.specs.Harts.{moved};
 ghost use Rattle.rrs_hart.specs.declared.bytes.ByteAccess.{ByteAccess as TheByteAccess};
-ghost use Rattle.rrs_exec.specs.Mending.{IsAsServed, Mended, Mending};
+ghost use Rattle.rrs_exec.specs.Mending.{Mended};
 ghost use Rattle.rrs_trace.specs.Retired.{no_access, after_fetch};
 ghost use Rattle.rrs_hart.specs.Atomics.{leaves, atomic_outcome, accesses_of_atomic};
 ghost use Rattle.rrs_exec.specs.MendedRecords.{byte_mask, whole_of, IsFaultOf, RetiresMended};
-ghost use Rattle.rrs_exec.specs.MendedRounds.{MendedRoundOf, MendedWithin};
 ghost use Rattle.rrs_lib.specs.declared.instruction_executor.InstructionException.TheVariants.{IllegalInstruction, AlignmentFault};
 
-use rrs_fast::{Ending, Environment, Runner, ServedEnd, run_served};
 use rrs_hart::{ByteAccess, access_by_bytes, execute_atomic};
 use rrs_lib::instruction::decode;
 use rrs_lib::instruction_executor::{InstructionException, InstructionExecutor, fetch_word};
@@ -381,93 +378,5 @@ pub(crate) fn mend_retired<M: Memory>(
             })
         }
         Err(left) => Err(left),
-    }
-}
-
-/// What a round, a served run and the instruction that it faulted at, was.
-#[derive(Drop)]
-enum MendedRound {
-    /// The program goes on, after this many steps.
-    GoneOn(u64),
-    /// It ended, after this many steps.
-    Ended(u64, Ending),
-}
-
-/// Makes a served run up to a fault, and carries out the instruction there.
-fn mend_next<M: Memory, R: Runner<M>, E: Environment>(
-    runner: &mut R,
-    executor: &mut InstructionExecutor<M>,
-    environment: &mut E,
-    reservation: &mut Option<u32>,
-    strict: bool,
-    limit: u64,
-) -> MendedRound
-    ensures round { MakesSome M.reads M.writes
-        (MendedRoundOf E.serves strict limit reservation.old
-        environment.old (state_in M.bytes M.writable executor.old) result reservation.new
-        environment.new (state_in M.bytes M.writable executor.new))
-        executor.old.mem.now executor.new.mem.now }
-    ensures within { MendedWithin limit result }
-    ensures rest { KeepsTheRest M.layout executor.old executor.new }
-{
-    let end = run_served(runner, executor, environment, limit);
-    match end.ending {
-        Ending::Fault(fault) => match mend(executor, reservation, strict, fault) {
-            Ok(()) => MendedRound::GoneOn(end.steps + 1),
-            Err(left) => MendedRound::Ended(end.steps, Ending::Fault(left)),
-        },
-        ending => MendedRound::Ended(end.steps, ending),
-    }
-}
-
-/// Makes steps up to `limit`, to an exception that is not mended, or until the environment ends the
-/// program: `run_served` of `rrs_fast`, which goes on where [mend] carried out the instruction of a
-/// fault.
-///
-/// No address is reserved when the run begins. An instruction that is carried out counts as a step.
-/// With limit 0 nothing changes.
-///
-/// The clauses: a chain of served runs and such instructions, each within what is left of the
-/// limit, leads from the machine and the environment before to those after, and exactly its
-/// accesses are made (`mended`); a run that comes to no such instruction is the served run
-/// (`as_served`); what is no part of the state stays (`rest`).
-pub fn run_mended<M: Memory, R: Runner<M>, E: Environment>(
-    runner: &mut R,
-    executor: &mut InstructionExecutor<M>,
-    environment: &mut E,
-    strict: bool,
-    limit: u64,
-) -> ServedEnd
-    ensures mended { MakesSome M.reads M.writes
-        (Mending E.serves strict result.ending
-        environment.new (state_in M.bytes M.writable executor.new)
-        limit environment.old (state_in M.bytes M.writable executor.old) result.steps)
-        executor.old.mem.now executor.new.mem.now }
-    ensures as_served { IsAsServed E.serves strict
-        limit environment.old (state_in M.bytes M.writable executor.old)
-        result.steps result.ending
-        environment.new (state_in M.bytes M.writable executor.new) }
-    ensures rest { KeepsTheRest M.layout executor.old executor.new }
-{
-    let mut reservation = None;
-    let mut steps = 0;
-    'rounds: loop {
-        let left = limit - steps;
-        match mend_next(
-            runner,
-            executor,
-            environment,
-            &mut reservation,
-            strict,
-            left,
-        ) {
-            MendedRound::GoneOn(more) => {
-                steps += more;
-            }
-            MendedRound::Ended(more, ending) => {
-                let steps = steps + more;
-                return ServedEnd { steps, ending };
-            }
-        }
     }
 }

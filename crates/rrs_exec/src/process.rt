@@ -6,18 +6,17 @@ ghost use Rattle.rrs_exec.specs.Images.{AreLong, memory_refusal};
 ghost use Rattle.rrs_lib.specs.Machine.{state_of};
 ghost use Rattle.rrs_elf.specs.declared.errors.ElfError.{ElfError};
 ghost use Rattle.rrs_elf.specs.Refusals.{first_refusal, checks};
-ghost use Rattle.rrs_exec.specs.Mending.{Mending};
-ghost use Rattle.rrs_exec.specs.Processes.{started, RunsImage, RunsProcess, ServesImage, IsLoaded};
+ghost use Rattle.rrs_exec.specs.Processes.{process_profile, started, Executing, RunsImage, RunsProcess, ServesImage, IsLoaded};
 ghost use Rattle.rrs_linux.specs.SystemCalls.{Serves};
 ghost use Rattle.rrs_exec.specs.ProcessMemories.{process_bytes, process_writable};
 
 use crate::image::{Image, ImageError, fill, image_of};
-use crate::mending::run_mended;
 use crate::process_memory::ProcessMemory;
 use crate::progress::{InPieces, Progress};
 use crate::protected::ProtectedMemory;
 use rrs_elf::Executable;
-use rrs_fast::{CachedMemory, Ending, Environment, OwnCache, ServedEnd};
+use rrs_fast::{CachedMemory, Ending, Environment, OwnHart, ServedEnd, run_served};
+use rrs_hart::HartProfile;
 use rrs_lib::HartState;
 use rrs_lib::instruction_executor::InstructionExecutor;
 use rrs_linux::{Heap, Linux};
@@ -45,6 +44,18 @@ pub struct ProcessEnd {
     pub steps: u64,
     /// The pc then: after a fault, that of the instruction that raised it.
     pub pc: u32,
+}
+
+/// The layers of the hart of a process: extension A, and misaligned loads and stores unless these
+/// are strict.
+pub fn process_profile(strict: bool) -> HartProfile
+    ensures { result ≡ process_profile strict }
+{
+    HartProfile {
+        atomics: true,
+        fence_i: false,
+        misaligned: !strict,
+    }
 }
 
 /// The hart of a process that starts: its pc is the entry, sp is the stack pointer, and all other
@@ -122,9 +133,9 @@ pub fn load_process(
 
 /// Runs a file's bytes as an executable with these arguments, of which the first is its name, and
 /// these environment variables, as `NAME=VALUE`, in a memory of so many bytes, and serves its system
-/// calls, for `limit` steps or until it ends or raises an exception that is not
-/// [mended](crate::mend). Its break begins after its segments, and the heap of the environment is set
-/// so. The end has the steps that were made and the pc after them. The progress is told of its
+/// calls, for `limit` steps or until it ends or raises an exception. Its hart has the layers of
+/// [process_profile]. Its break begins after its segments, and the heap of the environment is set so.
+/// The end has the steps that were made and the pc after them. The progress is told of its
 /// steps, and of its end.
 ///
 /// # Errors
@@ -142,7 +153,7 @@ pub fn execute_process<R: Read, W: Write, E: Write, P: Progress>(
     progress: &mut P,
 ) -> Result<ProcessEnd, ImageError>
     ensures executed { IfOk result (λ end. RunsProcess
-        (Mending (Serves R.remaining W.contents E.contents) strict)
+        (Executing (Serves R.remaining W.contents E.contents) strict)
         file.now (map string_bytes arguments.now) (map string_bytes variables.now) wanted limit
         environment.old environment.new end.steps end.pc end.ending) }
     ensures ceiling { IsExecutable file.now
@@ -171,7 +182,7 @@ fn run_image<R: Read, W: Write, E: Write, P: Progress>(
     environment: &mut Linux<R, W, E>,
     progress: &mut P,
 ) -> ProcessEnd
-    ensures { RunsImage (Mending (Serves R.remaining W.contents E.contents) strict) image
+    ensures { RunsImage (Executing (Serves R.remaining W.contents E.contents) strict) image
         (process_bytes memory) (process_writable memory) limit
         environment.old environment.new result.steps result.pc result.ending }
 {
@@ -189,7 +200,7 @@ pub fn serve_image<S: Environment, P: Progress>(
     environment: &mut S,
     progress: &mut P,
 ) -> ProcessEnd
-    ensures { ServesImage (Mending S.serves strict) image
+    ensures { ServesImage (Executing S.serves strict) image
         (process_bytes memory) (process_writable memory) limit
         environment.old environment.new result.steps result.pc result.ending }
 {
@@ -208,10 +219,13 @@ pub fn serve_image<S: Environment, P: Progress>(
         hart_state: &mut hart,
     };
     let mut runner = InPieces {
-        runner: OwnCache,
+        runner: OwnHart {
+            profile: process_profile(strict),
+            reservation: None,
+        },
         progress: &mut *progress,
     };
-    let end = run_mended(&mut runner, &mut executor, environment, strict, limit);
+    let end = run_served(&mut runner, &mut executor, environment, limit);
     let ServedEnd { steps, ending } = end;
     progress.end();
     let pc = executor.hart_state.pc;

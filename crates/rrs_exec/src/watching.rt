@@ -160,12 +160,10 @@ fn run_watched<E: Environment, V: Watcher, P: Progress>(
     limit: u64,
     progress: &mut P,
 ) -> ServedEnd
-    ensures watched { MakesSome protected_reads ProtectedWrites
-        (IsWatched E.serves V.sees V.wants limit
+    ensures watched { IsWatched E.serves V.sees V.wants limit
         environment.old (state_in protected_bytes protected_writable executor.old) watcher.old
         result.steps result.ending
-        environment.new (state_in protected_bytes protected_writable executor.new) watcher.new)
-        executor.old.mem.now executor.new.mem.now }
+        environment.new (state_in protected_bytes protected_writable executor.new) watcher.new }
     ensures rest { KeepsTheRest protected_layout executor.old executor.new }
 {
     let mut reservation = None;

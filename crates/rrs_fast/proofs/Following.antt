@@ -12,9 +12,9 @@ use Rattle.rrs_lib.specs.Words.{word}
 use Rattle.rrs_lib.specs.Machine.{State, with_pc}
 use Rattle.rrs_lib.specs.Steps.{RunUntil}
 use Rattle.rrs_lib.specs.Accesses.{Access}
-use Rattle.rrs_lib.proofs.Rows.{one_row_at_most}
-use Rattle.rrs_lib.proofs.Stepping.{RunUntil-unique}
-use Rattle.rrs_fast.specs.Serving.{Relation, EndsBy, Called, Served, Last, Exits, GoesOn, resumed}
+use Rattle.rrs_hart.specs.Harts.{Hart, hart_with, no_layers, HartRun}
+use Rattle.rrs_hart.proofs.HartRuns.{HartRun-unique, alone_run}
+use Rattle.rrs_fast.specs.Serving.{Relation, EndsBy, Called, HartServed, Served, Last, Exits, GoesOn, resumed}
 
 module _ {E : Type 0} (serves : Relation E) where
   -- What follows n steps to an ecall at pc, in the state u, within a limit: its call ends the program, or the chain
@@ -31,27 +31,27 @@ module _ {E : Type 0} (serves : Relation E) where
         → Follows ending e' t limit n pc e u steps
 
   -- a call of the run that is known
-  record CallOf (limit n pc : ℕ) (e : E) (u : State) (steps : ℕ) (answer : Option ℕ) (d : E) (t : State) : Type 0 where
+  record CallOf (limit n pc : ℕ) (e : E) (u : State) (steps : ℕ) (answer : Option ℕ) (d : E) (t : Hart) : Type 0 where
     after_call : State
     of_call : List Access
     served : serves e u d after_call of_call answer
-    goes_on : t ≡ resumed answer pc after_call
+    goes_on : t ≡ hart_with (resumed answer pc after_call) None
     counted : steps ≡ n + 1
 
-  call_of : (limit n pc : ℕ) (e d : E) (s u t : State) (steps : ℕ) (answer : Option ℕ) (accesses : List Access)
-      → RunUntil limit s n (Some (EnvironmentCall pc)) u → Called serves limit e s steps answer d t accesses
+  call_of : (limit n pc : ℕ) (e d : E) (s u : State) (t : Hart) (steps : ℕ) (answer : Option ℕ) (accesses : List Access)
+      → RunUntil limit s n (Some (EnvironmentCall pc)) u → Called no_layers serves limit e (hart_with s None) steps answer d t accesses
       → CallOf limit n pc e u steps answer d t
   call_of limit n pc e d s u t steps answer accesses run c =
       let same =
-      RunUntil-unique one_row_at_most limit s c.before n (Some (EnvironmentCall c.pc))
-      (Some (EnvironmentCall pc)) c.at_call u c.run run in
+      HartRun-unique no_layers limit (hart_with s None) c.before n (Some (EnvironmentCall c.pc))
+      (Some (EnvironmentCall pc)) c.at_call (hart_with u None) c.run (alone_run limit s n (Some (EnvironmentCall pc)) u run) in
       let call : EnvironmentCall c.pc ≡ EnvironmentCall pc = same_Some _ _ same.1 in
       let pcs : c.pc ≡ pc = cc in
       record {
         after_call = c.after_call;
         of_call = c.of_call;
-        served = subst (λ x. serves e x d c.after_call c.of_call answer) same.2 c.served;
-        goes_on = c.goes_on ∙ ap (λ p. resumed answer p c.after_call) pcs;
+        served = subst (λ (x : Hart). serves e x.state d c.after_call c.of_call answer) same.2 c.served;
+        goes_on = c.goes_on ∙ (λ i. hart_with (resumed answer (pcs i) c.after_call) (same.2 i).reserved);
         counted = c.counted ∙ ap (λ k. k + 1) same.0;
       }
 
@@ -59,14 +59,16 @@ module _ {E : Type 0} (serves : Relation E) where
       → RunUntil limit s n (Some (EnvironmentCall pc)) u → Served serves ending e' t limit e s steps accesses
       → Follows ending e' t limit n pc e u steps
   follows ending e' t limit n pc e s u steps accesses run (Last _ _ _ _ _ end last _ ends _) =
-      let same = RunUntil-unique one_row_at_most limit s steps n end (Some (EnvironmentCall pc)) t u last run in
+      let same = HartRun-unique no_layers limit (hart_with s None) steps n end (Some (EnvironmentCall pc)) (hart_with t None)
+      (hart_with u None) last (alone_run limit s n (Some (EnvironmentCall pc)) u run) in
       absurd (subst (λ x. EndsBy x ending) same.1 ends)
   follows ending e' t limit n pc e s u steps accesses run (Exits _ _ _ _ _ status called is) =
-      let c = call_of limit n pc e e' s u t steps (Some status) accesses run called in
+      let c = call_of limit n pc e e' s u (hart_with t None) steps (Some status) accesses run called in
+      let left : t ≡ c.after_call = ap (λ (h : Hart). h.state) c.goes_on in
       Ended status c.of_call
-      (subst (λ x. serves e u e' x c.of_call (Some status)) (sym c.goes_on) c.served) is c.counted
+      (subst (λ x. serves e u e' x c.of_call (Some status)) (sym left) c.served) is c.counted
   follows ending e' t limit n pc e s u _ _ run (GoesOn _ _ _ first later of_first of_later d m called rest) =
       let c = call_of limit n pc e d s u m first None of_first run called in
-      let behind = subst (λ x. Served serves ending e' t (limit - first) d x later of_later) c.goes_on rest in
+      let behind = subst (λ x. HartServed no_layers serves ending e' (hart_with t None) (limit - first) d x later of_later) c.goes_on rest in
       WentOn d c.after_call c.of_call of_later later c.served
       (subst (λ k. Served serves ending e' t (limit - k) d (with_pc c.after_call (word (pos (pc + 4)))) later of_later) c.counted behind) (ap (λ k. k + later) c.counted)

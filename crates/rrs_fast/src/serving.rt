@@ -1,16 +1,17 @@
 //! Runs of programs that call their environment.
 //!
 //! The hart takes no trap: at an `ecall` a run stops with the exception `EnvironmentCall(pc)`. The
-//! caller serves the call and goes on. `run_served` is that loop, proved once, over any [Memory]
-//! and any [Environment]. The clauses speak of the machine as those of `run` do. What a served run
-//! is, a chain of runs and calls, is written in `specs/Serving.antt`.
+//! caller serves the call and goes on. `run_served` is that loop, proved once, over any [Memory],
+//! any [Runner] and any [Environment]. What a served run is, a chain of runs and calls of a hart
+//! with a profile, is written in `specs/Serving.antt`.
 
 ghost use Rattle.std.specs.Prelude.{◌≡◌, ◌%◌, ◌<◌, ◌≤◌, ℕ, List, Option, None};
 ghost use Rattle.rrs_lib.specs.Machine.{State};
 ghost use Rattle.rrs_lib.specs.Executor.{state_in, KeepsTheRest};
 ghost use Rattle.rrs_lib.specs.Accesses.{Access, Makes};
 ghost use Rattle.rrs_lib.specs.Bytes.{EndsAtLastAddress};
-ghost use Rattle.rrs_fast.specs.Serving.{Served, IsOnlyServed, IsDeterminedBy, IsOnlyAlike, MakesSome};
+ghost use Rattle.rrs_hart.specs.Harts.{hart_with};
+ghost use Rattle.rrs_fast.specs.Serving.{HartServed, IsOnlyServed, IsDeterminedBy, IsOnlyHartAlike, MakesSome};
 ghost use Rattle.rrs_fast.specs.Rounds.{RoundOf, StepsWithin};
 
 use crate::runner::Runner;
@@ -85,10 +86,12 @@ fn serve_next<M: Memory, R: Runner<M>, E: Environment>(
     limit: u64,
 ) -> Round
     ensures round { MakesSome M.reads M.writes
-        (RoundOf E.serves limit
-        environment.old (state_in M.bytes M.writable executor.old) result
-        environment.new (state_in M.bytes M.writable executor.new))
+        (RoundOf (R.profile runner.old) E.serves limit environment.old
+        (hart_with (state_in M.bytes M.writable executor.old) (R.reserved runner.old))
+        result environment.new
+        (hart_with (state_in M.bytes M.writable executor.new) (R.reserved runner.new)))
         executor.old.mem.now executor.new.mem.now }
+    ensures same_profile { R.profile runner.new ≡ R.profile runner.old }
     ensures within { StepsWithin limit result }
     ensures rest { KeepsTheRest M.layout executor.old executor.new }
     ensures ends { 1 ≤ limit → executor.old.hart_state.now.pc % 4 ≡ 0
@@ -121,13 +124,13 @@ fn serve_next<M: Memory, R: Runner<M>, E: Environment>(
 /// pc + 4 modulo 2^32. Each `ecall` that is served counts as a step, so that a program that does
 /// nothing but call ends too. With limit 0 nothing changes and no call is served.
 ///
-/// The clauses: from the machine and the environment before, a chain of runs and calls, each within
-/// what is left of the limit, leads to those after, and exactly its accesses are made, those of the
-/// steps and those of the calls in their order (`served`); where the environment's calls are
-/// determined no other chain leads from there (`only`); where they are determined up to a likeness,
-/// each chain from an environment that is alike has the same steps, accesses, end and state, and
-/// leads to an environment that is alike (`only_alike`); what is no part of the state stays
-/// (`rest`). Where the first step fetches, nothing is mapped or writable from 2^32 on (`ends`), as
+/// The clauses: from the hart and the environment before, a chain of runs of the runner's profile
+/// and calls, each within what is left of the limit, leads to those after, and exactly its accesses
+/// are made, those of the steps and those of the calls in their order (`served`); where the
+/// environment's calls are determined no other chain leads from there (`only`); where they are
+/// determined up to a likeness, each chain from an environment that is alike has the same steps,
+/// accesses, end and state, and leads to an environment that is alike (`only_alike`); the runner
+/// keeps its profile (`same_profile`); what is no part of the state stays (`rest`). Where the first step fetches, nothing is mapped or writable from 2^32 on (`ends`), as
 /// by `run`.
 pub fn run_served<M: Memory, R: Runner<M>, E: Environment>(
     runner: &mut R,
@@ -136,20 +139,23 @@ pub fn run_served<M: Memory, R: Runner<M>, E: Environment>(
     limit: u64,
 ) -> ServedEnd
     ensures served { MakesSome M.reads M.writes
-        (Served E.serves result.ending
-        environment.new (state_in M.bytes M.writable executor.new)
-        limit environment.old (state_in M.bytes M.writable executor.old) result.steps)
-        executor.old.mem.now executor.new.mem.now }
-    ensures only { IsOnlyServed E.serves
-        limit environment.old (state_in M.bytes M.writable executor.old)
-        result.steps result.ending
-        environment.new (state_in M.bytes M.writable executor.new) }
+        (HartServed (R.profile runner.old) E.serves result.ending environment.new
+        (hart_with (state_in M.bytes M.writable executor.new) (R.reserved runner.new))
+        limit environment.old
+        (hart_with (state_in M.bytes M.writable executor.old) (R.reserved runner.old))
+        result.steps) executor.old.mem.now executor.new.mem.now }
+    ensures only { IsOnlyServed (R.profile runner.old) E.serves limit environment.old
+        (hart_with (state_in M.bytes M.writable executor.old) (R.reserved runner.old))
+        result.steps result.ending environment.new
+        (hart_with (state_in M.bytes M.writable executor.new) (R.reserved runner.new)) }
     ensures only_alike { IsDeterminedBy E.serves E.alike
-        → IsOnlyAlike E.serves E.alike
+        → IsOnlyHartAlike (R.profile runner.old) E.serves E.alike
         (λ accesses. Makes M.reads M.writes accesses executor.old.mem.now executor.new.mem.now)
-        limit environment.old (state_in M.bytes M.writable executor.old)
-        result.steps result.ending
-        environment.new (state_in M.bytes M.writable executor.new) }
+        limit environment.old
+        (hart_with (state_in M.bytes M.writable executor.old) (R.reserved runner.old))
+        result.steps result.ending environment.new
+        (hart_with (state_in M.bytes M.writable executor.new) (R.reserved runner.new)) }
+    ensures same_profile { R.profile runner.new ≡ R.profile runner.old }
     ensures rest { KeepsTheRest M.layout executor.old executor.new }
     ensures ends { 1 ≤ limit → executor.old.hart_state.now.pc % 4 ≡ 0
         → EndsAtLastAddress (M.bytes executor.old.mem.now) (M.writable executor.old.mem.now) }

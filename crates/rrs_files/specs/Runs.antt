@@ -2,8 +2,7 @@
 use Rattle.std.specs.Prelude.{◌≡◌, ℕ, Bool, List, Option}
 use Rattle.rrs_lib.specs.Bytes.{ByteMap}
 use Rattle.rrs_exec.specs.declared.image.Image.{Image}
-use Rattle.rrs_exec.specs.Mending.{Mending}
-use Rattle.rrs_exec.specs.Processes.{IsLoaded, ServesImage, heap_of}
+use Rattle.rrs_exec.specs.Processes.{Executing, IsLoaded, ServesImage, heap_of}
 use Rattle.rrs_fast.specs.declared.serving.Ending.{Ending}
 use Rattle.rrs_fast.specs.Serving.{Relation}
 use Rattle.rrs_linux.specs.declared.Process.{Process}
@@ -23,7 +22,7 @@ pub record RunsFilesBelow {P F : Type 0} (serves : Relation P) (did : Did F) (st
   pub last : WithFiles P F
   pub begins : first.process.now ≡ process
   pub has : first.files ≡ files
-  pub runs : ServesImage (Mending (ServesFiles serves did) strict) image bytes writable limit
+  pub runs : ServesImage (Executing (ServesFiles serves did) strict) image bytes writable limit
       first last steps pc ending
 
 -- By what is known of the environment's reader and writers, by what a folder says of a call, and by
@@ -38,7 +37,7 @@ module _ {R W E F : Type 0} (remaining : R → Option (List ℕ)) (contents : W 
     pub first : WithFiles (Process R (HostWriter W) (HostWriter E) HostSide) F
     pub begins : first.process.now ≡ record old.process.now { heap = heap_of image }
     pub has : first.files ≡ old.files
-    pub runs : ServesImage (Mending (ServesFiles (Serves remaining contents errors_of) did) strict)
+    pub runs : ServesImage (Executing (ServesFiles (Serves remaining contents errors_of) did) strict)
         image bytes writable limit first new steps pc ending
 
   -- A process is loaded, and runs so from its entry.

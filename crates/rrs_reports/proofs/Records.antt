@@ -9,9 +9,8 @@ use Rattle.rrs_linux.specs.declared.Process.{Process}
 use Rattle.rrs_linux.specs.declared.host_writer.HostWriter.{HostWriter}
 use Rattle.rrs_linux.specs.declared.host_side.HostSide.{HostSide}
 use Rattle.rrs_linux.specs.SystemCalls.{Serves}
-use Rattle.rrs_exec.specs.Processes.{started, heap_of}
+use Rattle.rrs_exec.specs.Processes.{Executing, started, heap_of}
 use Rattle.rrs_exec.specs.Watching.{start_in, WatchesProcess}
-use Rattle.rrs_exec.specs.Mending.{Mending}
 use Rattle.rrs_exec.specs.Protection.{bytes_under, writable_under}
 use Rattle.rrs_exec.specs.Watching.{TurnAnswer, Turn, Stepped, Faulted, CarriedOut, Called, Turns, NoTurn, OneMore, Shown, ToLimit, ToExit, ToFault}
 use Rattle.rrs_reports.specs.Records.{keeps, wants_all, RunsWithRecords}
@@ -89,7 +88,7 @@ run_kept remaining contents errors_of sees wants P grows file arguments variable
             end = runs.runs.end;
             stands = runs.runs.stands;
             accesses = runs.runs.accesses;
-            served = subst (λ n. Mending serves false ending new runs.runs.end n before start steps runs.runs.accesses)
+            served = subst (λ n. Executing serves false ending new runs.runs.end n before start steps runs.runs.accesses)
                 (watched.all more) runs.runs.served;
           };
         };

@@ -7,8 +7,7 @@ use Rattle.rrs_linux.specs.declared.Process.{Process}
 use Rattle.rrs_linux.specs.declared.host_writer.HostWriter.{HostWriter}
 use Rattle.rrs_linux.specs.declared.host_side.HostSide.{HostSide}
 use Rattle.rrs_linux.specs.SystemCalls.{Serves}
-use Rattle.rrs_exec.specs.Mending.{Mending}
-use Rattle.rrs_exec.specs.Processes.{heap_of, RunsProcess}
+use Rattle.rrs_exec.specs.Processes.{Executing, heap_of, RunsProcess}
 use Rattle.rrs_exec.specs.Watching.{Shown, start_in}
 
 -- a list to which what is shown is appended, and which wants all of it
@@ -24,7 +23,7 @@ pub record RunsWithRecords {R W E : Type 0} (remaining : R → Option (List ℕ)
     (file : List ℕ) (arguments variables : List (List ℕ)) (wanted limit : ℕ)
     (old new : Process R (HostWriter W) (HostWriter E) HostSide)
     (steps pc : ℕ) (ending : Ending) (records : List Retired) : Type 0 where
-  pub runs : RunsProcess (Mending (Serves remaining contents errors_of) false)
+  pub runs : RunsProcess (Executing (Serves remaining contents errors_of) false)
       file arguments variables wanted limit old new steps pc ending
   pub shown : Shown (Serves remaining contents errors_of) keeps wants_all
       (record old { heap = heap_of runs.image })

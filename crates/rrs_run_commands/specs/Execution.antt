@@ -10,7 +10,7 @@ use Rattle.rrs_lib.specs.VecBytes.{bytes_of_words, lies_in_words}
 use Rattle.rrs_lib.specs.Loading.{Loads}
 use Rattle.rrs_cli.specs.Printed.{zero_words, start_of}
 use Rattle.rrs_fast.specs.declared.serving.Ending.{Ending}
-use Rattle.rrs_exec.specs.Mending.{Chain}
+use Rattle.rrs_exec.specs.Processes.{Chain}
 use Rattle.rrs_linux.specs.declared.Heap.{Heap}
 use Rattle.rrs_linux.specs.declared.Process.{Process}
 use Rattle.rrs_linux.specs.declared.host_writer.HostWriter.{HostWriter}

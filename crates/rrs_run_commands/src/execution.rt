@@ -2,7 +2,7 @@
 
 ghost use Rattle.std.specs.Prelude.{◌≡◌, IfOk, IfErr, OnErr};
 ghost use Rattle.rrs_cli.specs.Faults.{StopsLoadInto};
-ghost use Rattle.rrs_exec.specs.Mending.{Mending};
+ghost use Rattle.rrs_exec.specs.Processes.{Executing};
 ghost use Rattle.rrs_linux.specs.SystemCalls.{Serves};
 ghost use Rattle.rrs_run_commands.specs.Execution.{ExecutesProgram};
 
@@ -11,8 +11,8 @@ use crate::files::read_program;
 use crate::refusal::{Refusal, unloaded};
 use rrs_cli::fault::RunFault;
 use rrs_cli::loading::load;
-use rrs_exec::{DECODED_WORDS, InPieces, ProcessEnd, Progress, run_mended};
-use rrs_fast::{CachedMemory, Ending, OwnCache, ServedEnd};
+use rrs_exec::{DECODED_WORDS, InPieces, ProcessEnd, Progress, process_profile};
+use rrs_fast::{CachedMemory, Ending, OwnHart, ServedEnd, run_served};
 use rrs_lib::HartState;
 use rrs_lib::instruction_executor::InstructionExecutor;
 use rrs_linux::Linux;
@@ -30,7 +30,7 @@ pub const HEAP_START: u32 = 0x0008_0000;
 pub const HEAP_END: u32 = 0x000c_0000;
 
 /// Runs a reader's bytes as a program, and serves its system calls, for `limit` steps or until it
-/// ends or raises an exception that is not mended. The end has the steps that were made and the pc
+/// ends or raises an exception. Its hart has the layers of [process_profile]. The end has the steps that were made and the pc
 /// after them. The progress is told of its steps, and of its end.
 ///
 /// # Errors
@@ -46,7 +46,7 @@ pub fn execute<F: Read, R: Read, W: Write, E: Write, P: Progress>(
     progress: &mut P,
 ) -> Result<ProcessEnd, RunFault>
     ensures executed { IfOk result (λ end. ExecutesProgram
-        (Mending (Serves R.remaining W.contents E.contents) strict) limit
+        (Executing (Serves R.remaining W.contents E.contents) strict) limit
         (F.remaining program.old) (F.remaining program.new) environment.old environment.new
         end.steps end.pc end.ending) }
     ensures fault { IfErr result
@@ -62,10 +62,13 @@ pub fn execute<F: Read, R: Read, W: Write, E: Write, P: Progress>(
         hart_state: &mut hart,
     };
     let mut runner = InPieces {
-        runner: OwnCache,
+        runner: OwnHart {
+            profile: process_profile(strict),
+            reservation: None,
+        },
         progress: &mut *progress,
     };
-    let end = run_mended(&mut runner, &mut executor, environment, strict, limit);
+    let end = run_served(&mut runner, &mut executor, environment, limit);
     let ServedEnd { steps, ending } = end;
     progress.end();
     let pc = executor.hart_state.pc;

@@ -1,8 +1,8 @@
-//! Misaligned loads and stores, and extension A, in runs that are mended. The words are those of
+//! Misaligned loads and stores, and extension A, on the hart of a process. The words are those of
 //! GNU `as`, and what they leave is what `qemu-riscv32` shows.
 
-use rrs_exec::run_mended;
-use rrs_fast::{DecodeCache, Ending, ServedEnd};
+use rrs_exec::process_profile;
+use rrs_fast::{CachedMemory, Ending, OwnHart, ServedEnd, run_served};
 use rrs_lib::HartState;
 use rrs_lib::instruction_executor::{InstructionException, InstructionExecutor};
 use rrs_lib::memories::VecMemory;
@@ -50,7 +50,7 @@ fn run(
     let mut words = code.to_vec(alloc)?;
     words.resize(7, 0)?;
     words.extend_from_slice(&[0x4433_2211, 0x8877_6655])?;
-    let mut memory = VecMemory::new(words);
+    let mut memory: CachedMemory<_, 16> = CachedMemory::new(VecMemory::new(words));
     let mut hart = HartState::new();
     hart.registers[5] = address;
     hart.registers[6] = 0xa1b2_c3d4;
@@ -60,9 +60,12 @@ fn run(
         mem: &mut memory,
         hart_state: &mut hart,
     };
-    let mut runner = DecodeCache::new();
-    let end = run_mended(&mut runner, &mut executor, &mut environment, strict, limit);
-    let words = match memory.mem.as_slice() {
+    let mut runner = OwnHart {
+        profile: process_profile(strict),
+        reservation: None,
+    };
+    let end = run_served(&mut runner, &mut executor, &mut environment, limit);
+    let words = match memory.into_memory().mem.as_slice() {
         [.., first, second] => [*first, *second],
         _ => [0; 2],
     };

@@ -1,11 +1,13 @@
 -- The run begins in the image.
-use Rattle.std.proofs.Common.{◌≡◌, refl, subst, ap, ◌∙◌}
+use Rattle.std.proofs.Common.{◌≡◌, None, refl, subst, ap, ◌∙◌}
 use Rattle.rrs_lib.specs.Machine.{state_of}
 use Rattle.rrs_lib.specs.Executor.{state_in}
-use Rattle.rrs_exec.specs.Mending.{Mending}
+use Rattle.rrs_hart.specs.Harts.{hart_with}
+use Rattle.rrs_fast.specs.Serving.{HartServed}
 use Rattle.rrs_exec.specs.ProcessMemories.{process_bytes, process_writable}
 use Rattle.rrs_exec.specs.Processes.{started}
 use Rattle.rrs_exec.specs.Protection.{bytes_under, writable_under, protected_bytes, protected_writable}
+use Rattle.rrs_exec.proofs.MendedHarts.{executes}
 use Rattle.rrs_exec.proofs.process.serve_image.Goals as goal
 
 pub returns : goal.returns
@@ -15,9 +17,9 @@ returns g c =
     let bytes = bytes_under marks (process_bytes c.args.memory) in
     let writable = writable_under marks (process_writable c.args.memory) in
     let hart = c.started-hart.result in
-    let mended = c.run_mended-end.ensures.mended in
-    let end = c.run_mended-end.result in
-    let new = c.run_mended-end.new in
+    let made = c.run_served-end.ensures.served in
+    let end = c.run_served-end.result in
+    let new = c.run_served-end.new in
     let last = state_in protected_bytes protected_writable new.executor in
     let starts : state_of hart (protected_bytes c.new-cached.result) (protected_writable c.new-cached.result)
     ≡ started image.entry image.stack_pointer bytes writable =
@@ -26,8 +28,9 @@ returns g c =
     record {
       end = last;
       stands = refl;
-      accesses = mended.accesses;
-      served = subst
-          (λ s. Mending g.S.Environment.serves c.args.strict end.ending new.environment last c.args.limit c.args.environment.now s end.steps mended.accesses)
-          starts mended.these;
+      accesses = made.accesses;
+      served = executes g.S.Environment.serves c.args.strict _ c.process_profile.ensures _ _ _ _ _ _ _ _ _
+          (subst (λ s. HartServed c.process_profile.result g.S.Environment.serves end.ending new.environment
+          (hart_with last new.runner.runner.reservation) c.args.limit c.args.environment.now (hart_with s None) end.steps made.accesses)
+          starts made.these);
     }

@@ -1,5 +1,5 @@
 use Rattle.rrs_lib.specs.Executor.{state_in, KeepsTheRest}
-use Rattle.rrs_exec.specs.Protection.{protected_bytes, protected_writable, protected_layout, protected_reads, ProtectedWrites}
+use Rattle.rrs_exec.specs.Protection.{protected_bytes, protected_writable, protected_layout}
 use Rattle.rrs_exec.proofs.WatchedRuns.{Leads}
 use Rattle.rrs_exec.proofs.watching.run_watched.Given as goal
 
@@ -8,6 +8,6 @@ abbrev pub invariant-loop-steps : goal.invariant-loop-steps
 invariant-loop-steps g l =
     let state = state_in protected_bytes protected_writable in
     record {
-      leads : Leads g.E.Environment.serves g.V.Watcher.sees g.V.Watcher.wants protected_reads ProtectedWrites l.fn.environment (state l.fn.executor) l.fn.watcher l.fn.executor.mem.now l.steps l.reservation l.environment (state l.executor) l.watcher l.executor.mem.now;
+      leads : Leads g.E.Environment.serves g.V.Watcher.sees g.V.Watcher.wants l.fn.environment (state l.fn.executor) l.fn.watcher l.steps l.reservation l.environment (state l.executor) l.watcher;
       rest : KeepsTheRest protected_layout l.fn.executor l.executor;
     }

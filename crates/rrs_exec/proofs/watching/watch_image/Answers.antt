@@ -7,7 +7,7 @@ use Rattle.rrs_exec.specs.Protection.{protected_bytes, protected_writable}
 use Rattle.rrs_exec.specs.declared.protected.ProtectedMemory.{ProtectedMemory}
 use Rattle.rrs_linux.specs.declared.Heap.{Heap}
 use Rattle.rrs_linux.specs.SystemCalls.{Serves}
-use Rattle.rrs_exec.specs.Mending.{Mending}
+use Rattle.rrs_exec.specs.Processes.{Executing}
 use Rattle.rrs_exec.specs.Watching.{Shown, start_in}
 use Rattle.rrs_exec.proofs.watching.watch_image.Goals as goal
 
@@ -17,14 +17,13 @@ returns g c =
     let serves = Serves g.R.Read.remaining g.W.Write.contents g.E.Write.contents in
     let bytes = process_bytes c.args.memory in
     let writable = process_writable c.args.memory in
-    let made = c.run_watched-steps.ensures.watched in
-    let watched = made.these in
+    let watched = c.run_watched-steps.ensures.watched in
     let end = c.run_watched-steps.result in
     let new = c.run_watched-steps.new.environment in
     let last = state_in protected_bytes protected_writable c.run_watched-steps.new.executor in
     let from = start_in image bytes writable in
     let P : Heap → State → Type 0 = λ heap s.
-    Mending serves false end.ending new last watched.most (record c.args.environment.now { heap = heap }) s end.steps made.accesses in
+    Executing serves false end.ending new last watched.most (record c.args.environment.now { heap = heap }) s end.steps watched.accesses in
     let Q : Heap → State → Type 0 = λ heap s.
     Shown serves g.V.Watcher.sees g.V.Watcher.wants (record c.args.environment.now { heap = heap }) s c.args.watcher.now end.ending end.steps new last c.run_watched-steps.new.watcher in
     let heaps = c.new-environment.ensures in
@@ -41,7 +40,7 @@ returns g c =
       runs = record {
         end = last;
         stands = refl;
-        accesses = made.accesses;
+        accesses = watched.accesses;
         served = subst (λ heap. P heap from) heaps (subst (P c.new-environment.result) states served);
       };
       shown = subst (λ heap. Q heap from) heaps (subst (Q c.new-environment.result) states shown);

@@ -1,4 +1,4 @@
-use Rattle.std.proofs.Common.{◌≡◌, ℕ, ◌-◌, ◌%◌, ◌≤◌, ◌<◌, subst, inl, inr, arith}
+use Rattle.std.proofs.Common.{◌≡◌, ℕ, ◌-◌, ◌%◌, ◌≤◌, ◌<◌, ◌∙◌, subst, inl, inr, arith}
 use Rattle.std.proofs.lemmas.Bool.{cases_lt}
 use Rattle.rrs_lib.specs.AccessLists.{Makes}
 use Rattle.rrs_lib.specs.Bytes.{EndsAtLastAddress}
@@ -22,7 +22,8 @@ ends_at aligned ends now start steps limit at_start before by_round some even =
 pub rounds-preserved : goal.rounds-preserved
 rounds-preserved g c = record {
   within = omega (arith, c.rounds.invariant.within, c.in-GoneOn.ensures.within.1);
-  reached = reached_more _ _ _ _ _ _ _ _ _ _ _ _ _ _ _ c.rounds.invariant.reached c.in-GoneOn.ensures.round;
+  reached = reached_more _ _ _ _ _ _ _ _ _ _ _ _ _ _ _ _ _ c.rounds.invariant.same_profile c.rounds.invariant.reached c.in-GoneOn.ensures.round;
+  same_profile = c.serve_next.ensures.same_profile ∙ c.rounds.invariant.same_profile;
   rest = KeepsTheRest-trans _ _ _ _ c.rounds.invariant.rest c.serve_next.ensures.rest;
   at_start = λ none. absurd (omega (arith, none, c.in-GoneOn.ensures.within.0));
   ends =
@@ -33,16 +34,16 @@ rounds-preserved g c = record {
 
 pub returns-in-Ended-clause-served : goal.returns-in-Ended-clause-served
 returns-in-Ended-clause-served g c =
-    reached_end _ _ _ _ _ _ _ _ _ _ _ _ _ _ _ _ c.rounds.invariant.reached c.in-Ended.ensures.round
+    reached_end _ _ _ _ _ _ _ _ _ _ _ _ _ _ _ _ _ _ c.rounds.invariant.same_profile c.rounds.invariant.reached c.in-Ended.ensures.round
 
 pub returns-in-Ended-clause-only : goal.returns-in-Ended-clause-only
 returns-in-Ended-clause-only g c =
-    only_served g.E.Environment.serves _ _ _ _ _ _ _ _ (returns-in-Ended-clause-served g c).these
+    only_served (g.R.Runner.profile c.args.runner.now) g.E.Environment.serves _ _ _ _ _ _ _ _ (returns-in-Ended-clause-served g c).these
 
 pub returns-in-Ended-clause-only_alike : goal.returns-in-Ended-clause-only_alike
 returns-in-Ended-clause-only_alike g c =
     let served = returns-in-Ended-clause-served g c in
-    only_alike g.E.Environment.serves g.E.Environment.alike
+    only_alike (g.R.Runner.profile c.args.runner.now) g.E.Environment.serves g.E.Environment.alike
     (λ a. Makes g.M.Memory.reads g.M.Memory.writes a c.args.executor.now.mem.now c.serve_next.new.executor.mem.now)
     _ _ _ _ _ _ _ _ served.made served.these
 
