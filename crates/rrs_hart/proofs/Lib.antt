@@ -1,6 +1,12 @@
 pub mod IllegalWords
 mod AnyBytes
 pub mod OneLayer
+pub mod OneShort
+pub mod ShortRegisters
+pub mod HalvesSteps
+pub mod HalvesEnds
 pub mod HartSteps
 pub mod Chains
+pub mod WholeWords
+pub mod KitsWords
 pub mod HartRuns

@@ -10,12 +10,14 @@
 
 mod atomics;
 mod bytes;
+mod halves;
 mod profile;
 mod runs;
 mod step;
 
 pub use atomics::execute_atomic;
 pub use bytes::{ByteAccess, access_by_bytes};
+pub use halves::Encoding;
 pub use profile::{HartProfile, decode_in};
 pub use runs::run_hart;
 pub use step::{execute_word, step_hart};

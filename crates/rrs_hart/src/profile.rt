@@ -15,6 +15,8 @@ pub struct HartProfile {
     pub fence_i: bool,
     /// Whether loads and stores at misaligned addresses are carried out.
     pub misaligned: bool,
+    /// Extension C for RV32 without floating point: instructions of 16 bits, at even addresses.
+    pub compressed: bool,
 }
 
 /// Whether a hart has an instruction that `rrs_words` has in a table of its own.

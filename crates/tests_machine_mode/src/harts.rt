@@ -12,6 +12,7 @@ const ALL: HartProfile = HartProfile {
     atomics: true,
     fence_i: true,
     misaligned: true,
+    compressed: false,
 };
 
 /// The hart of the kit.
@@ -19,6 +20,15 @@ const NONE: HartProfile = HartProfile {
     atomics: false,
     fence_i: false,
     misaligned: false,
+    compressed: false,
+};
+
+/// A hart that has all layers and the compressed instructions.
+const SHORT: HartProfile = HartProfile {
+    atomics: true,
+    fence_i: true,
+    misaligned: true,
+    compressed: true,
 };
 
 /// What a step leaves: how it ended, the pc, x5, the words at 4 and 8, and the reservation.
@@ -238,5 +248,73 @@ fn single_steps_leave_what_the_run_does(rt: HostRuntime) -> Result<(), Fail> {
     let left = after(&memory, &hart);
     let call = Err(InstructionException::EnvironmentCall(40));
     assert_eq!(rt; (done, end, left), (true, call, AFTER));
+    Ok(())
+}
+
+/// What a step of a hart with the compressed instructions leaves: how it ended, the pc, x1 and x9.
+type ShortLeft = (Result<(), InstructionException>, u32, u32, u32);
+
+/// What the instruction at a pc leaves, where x6 and x8 are 6, and sp is 4.
+fn left_at(alloc: Global, words: [u32; 3], pc: u32) -> Result<ShortLeft, AllocError> {
+    let [first, second, third] = words;
+    let mut memory = VecMemory::new(vec![in alloc; first, second, third]?);
+    let mut hart = HartState::new();
+    hart.registers[2] = 4;
+    hart.registers[6] = 6;
+    hart.registers[8] = 6;
+    hart.pc = pc;
+    let mut reservation = None;
+    let mut executor = InstructionExecutor {
+        mem: &mut memory,
+        hart_state: &mut hart,
+    };
+    let answer = step_hart(&mut executor, &mut reservation, SHORT);
+    Ok((answer, hart.pc, hart.registers[1], hart.registers[9]))
+}
+
+/// The three words, the pc, and what is left where the step is `Ok`: the pc, x1 and x9. The
+/// instructions are as GNU `as` has them.
+const SHORT_DONE: [([u32; 3], u32, (u32, u32, u32)); 10] = [
+    ([0x0000_44a9, 0, 0], 0, (2, 0, 10)), // c.li x9, 10
+    ([0x44a9_0000, 0, 0], 2, (4, 0, 10)), // the same
+    ([0x2031_0000, 0, 0], 2, (14, 4, 0)), // c.jal 14
+    ([0x0000_9302, 0, 0], 0, (6, 2, 0)), // c.jalr x6
+    ([0x8302_0000, 0, 0], 2, (6, 0, 0)), // c.jr x6
+    ([0x0000_4092, 0, 0x0000_0007], 0, (2, 7, 0)), // c.lwsp x1, 4(x2)
+    ([0x4004_0000, 0x2211_0000, 0x4433], 2, (4, 0, 0x4433_2211)), // c.lw x9, 0(x8)
+    ([0x00ef_0000, 0x0000_0080, 0], 2, (10, 6, 0)), // jal x1, 8 behind
+    ([0x2483_0000, 0x2211_0003, 0x4433], 2, (6, 0, 0x4433_2211)), // lw x9, 0(x6)
+    ([0x100f_0000, 0, 0], 2, (6, 0, 0)), // fence.i
+];
+
+/// The three words, the pc, and the exception that is raised.
+const SHORT_RAISED: [([u32; 3], u32, InstructionException); 6] = [
+    ([0, 0, 0], 1, InstructionException::AlignmentFault(1)),
+    ([0, 0, 0], 12, InstructionException::FetchError(12)),
+    (
+        [0, 0, 0x0003_0000],
+        10,
+        InstructionException::FetchError(12),
+    ),
+    ([0, 0, 0], 2, InstructionException::IllegalInstruction(2, 0)),
+    (
+        [0x0073_0000, 0x3020, 0],
+        2,
+        InstructionException::IllegalInstruction(2, MRET),
+    ),
+    ([0x9002_0000, 0, 0], 2, InstructionException::Breakpoint(2)),
+];
+
+#[test]
+fn a_compressed_step_goes_on_behind_its_bytes(rt: HostRuntime) -> Result<(), Fail> {
+    let alloc = rt.alloc();
+    let (mut done, mut raised) = (true, true);
+    for (words, pc, (next, x1, x9)) in SHORT_DONE {
+        done = done && left_at(alloc, words, pc)? == (Ok(()), next, x1, x9);
+    }
+    for (words, pc, exception) in SHORT_RAISED {
+        raised = raised && left_at(alloc, words, pc)? == (Err(exception), pc, 0, 0);
+    }
+    assert_eq!(rt; (done, raised), (true, true));
     Ok(())
 }

@@ -1,4 +1,4 @@
-use Rattle.std.proofs.Common.{◌≡◌, ◌%◌, ◌≤◌, Ok, refl, arith}
+use Rattle.std.proofs.Common.{◌≡◌, ◌%◌, Ok, refl, arith}
 use Rattle.rrs_lib.specs.Bytes.{EndsAtLastAddress}
 use Rattle.std.proofs.lemmas.List.{replicate_more}
 use Rattle.rrs_lib.specs.Steps.{StepAnswer}
@@ -64,7 +64,7 @@ pub returns-in-Err-clause-only : goal.returns-in-Err-clause-only
 returns-in-Err-clause-only g c = only_run _ _ _ _ _ _ (returns-in-Err-clause-run g c)
 
 pub returns-clause-kit : goal.returns-clause-kit
-returns-clause-kit g c = kits_run _ _ _ _ _ _ _ _ (returns-clause-run g c)
+returns-clause-kit g c = kits_run _ _ _ _ _ _ _ _ (λ halves. omega arith) (returns-clause-run g c)
 
 pub returns-in-Err-clause-kit : goal.returns-in-Err-clause-kit
-returns-in-Err-clause-kit g c = kits_run _ _ _ _ _ _ _ _ (returns-in-Err-clause-run g c)
+returns-in-Err-clause-kit g c = kits_run _ _ _ _ _ _ _ _ (λ halves. omega arith) (returns-in-Err-clause-run g c)

@@ -13,7 +13,7 @@ returns-then-not-profile-clause-step g c = λ r.
     let memory = g.M.Memory in
     let s = state_of c.args.hart.now (memory.bytes c.args.mem.now) (memory.writable c.args.mem.now) in
     let i = c.args.instruction.now in
-    stands c.args.profile s s r c.args.word (row_of i) (fields_of i) c.args.fault (forgotten s c.requires.forgot) c.requires.aligned c.requires.word
+    stands c.args.profile s s r c.args.word (row_of i) (fields_of i) c.args.fault c.requires.whole (forgotten s c.requires.forgot) c.requires.aligned c.requires.word
     c.requires.is c.requires.refused refl (λ a o at. not_true c.args.profile.misaligned c.if-not-profile.true at.allowed)
 
 pub returns-then-not-profile-clause-makes : goal.returns-then-not-profile-clause-makes
@@ -22,7 +22,7 @@ returns-then-not-profile-clause-makes g c = λ r.
     let s = state_of c.args.hart.now (memory.bytes c.args.mem.now) (memory.writable c.args.mem.now) in
     let i = c.args.instruction.now in (
       [],
-      stands_accesses c.args.profile s r c.args.word (row_of i) (fields_of i) (forgotten s c.requires.forgot) c.requires.aligned c.requires.word
+      stands_accesses c.args.profile s r c.args.word (row_of i) (fields_of i) c.requires.whole (forgotten s c.requires.forgot) c.requires.aligned c.requires.word
           c.requires.is (λ a o at. not_true c.args.profile.misaligned c.if-not-profile.true at.allowed),
       refl,
     )
@@ -44,7 +44,7 @@ returns-in-Some-clause-step g c = λ r.
     let a = c.in-AlignmentFault.field-0 in
     let left : LeavesIf (anywhere_by (table row).action f s) s u (Some answer) =
     subst (λ x. LeavesIf (anywhere_by (table row).action f s) s u x) (ap answer_if c.in-Some.is ∙ ap Some (sym c.answer_of-answer.ensures)) done.ensures.outcome in
-    (carried_out c.args.profile s t u r c.args.word row f a answer (anywhere_by (table row).action f s) (forgotten s c.requires.forgot) c.requires.aligned
+    (carried_out c.args.profile s t u r c.args.word row f a answer (anywhere_by (table row).action f s) c.requires.whole (forgotten s c.requires.forgot) c.requires.aligned
     c.requires.word c.requires.is (subst (λ e. Executes row f s s (Err e)) c.in-AlignmentFault.is c.requires.refused)
     (not_false c.args.profile.misaligned c.if-not-profile.false) refl left
     (c.go_on.ensures.moved bytes writable ∙ (λ k. moved (c.size_of.ensures k) u answer))).0
@@ -66,7 +66,7 @@ returns-in-Some-clause-makes g c = λ r.
     let left : LeavesIf (anywhere_by (table row).action f s) s u (Some answer) =
     subst (λ x. LeavesIf (anywhere_by (table row).action f s) s u x) (ap answer_if c.in-Some.is ∙ ap Some (sym c.answer_of-answer.ensures)) done.ensures.outcome in (
       accesses_anywhere (table row).action f s,
-      (carried_out c.args.profile s t u r c.args.word row f a answer (anywhere_by (table row).action f s) (forgotten s c.requires.forgot) c.requires.aligned
+      (carried_out c.args.profile s t u r c.args.word row f a answer (anywhere_by (table row).action f s) c.requires.whole (forgotten s c.requires.forgot) c.requires.aligned
           c.requires.word c.requires.is (subst (λ e. Executes row f s s (Err e)) c.in-AlignmentFault.is c.requires.refused)
           (not_false c.args.profile.misaligned c.if-not-profile.false) refl left
           (c.go_on.ensures.moved bytes writable ∙ (λ k. moved (c.size_of.ensures k) u answer))).1,
@@ -82,11 +82,11 @@ returns-in_default g c =
     let same = forgotten s c.requires.forgot in
     let none = no_bytes_other c.args.profile s c.args.word (row_of i) (fields_of i) c.args.fault same c.requires.refused c.in_default.not-AlignmentFault in
     record {
-      step = λ r. stands c.args.profile s s r c.args.word (row_of i) (fields_of i) c.args.fault same c.requires.aligned c.requires.word c.requires.is
+      step = λ r. stands c.args.profile s s r c.args.word (row_of i) (fields_of i) c.args.fault c.requires.whole same c.requires.aligned c.requires.word c.requires.is
           c.requires.refused refl none;
       makes = λ r. (
         [],
-        stands_accesses c.args.profile s r c.args.word (row_of i) (fields_of i) same c.requires.aligned c.requires.word c.requires.is none,
+        stands_accesses c.args.profile s r c.args.word (row_of i) (fields_of i) c.requires.whole same c.requires.aligned c.requires.word c.requires.is none,
         refl,
       );
       layout_kept = refl;

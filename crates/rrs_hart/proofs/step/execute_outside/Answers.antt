@@ -16,6 +16,7 @@ returns-in-Some-clause-step g c =
     let bytes = memory.bytes done.new.mem in
     let writable = memory.writable done.new.mem in
     let at : LayerAt c.args.profile s w i = record {
+      words = c.requires.whole;
       fetched = next_stands s w c.requires.aligned c.requires.word;
       outside = c.requires.illegal;
       is = c.in-Some.ensures.decoded;
@@ -31,6 +32,7 @@ returns-in-Some-clause-makes g c =
     let w = c.args.word in
     let i = c.in-Some.instruction in
     let at : LayerAt c.args.profile s w i = record {
+      words = c.requires.whole;
       fetched = next_stands s w c.requires.aligned c.requires.word;
       outside = c.requires.illegal;
       is = c.in-Some.ensures.decoded;
@@ -42,7 +44,7 @@ returns-in-None-clause-step g c =
     let memory = g.M.Memory in
     let s = state_of c.args.hart.now (memory.bytes c.args.mem.now) (memory.writable c.args.mem.now) in
     let w = c.args.word in
-    OfKit (kits_illegal c.args.profile s w (next_stands s w c.requires.aligned c.requires.word) c.requires.illegal c.in-None.ensures.outside)
+    OfKit (kits_illegal c.args.profile s w c.requires.whole (next_stands s w c.requires.aligned c.requires.word) c.requires.illegal c.in-None.ensures.outside)
     (Illegal w c.requires.aligned c.requires.word c.requires.illegal refl refl) refl
 
 pub returns-in-None-clause-makes : goal.returns-in-None-clause-makes
@@ -51,7 +53,7 @@ returns-in-None-clause-makes g c =
     let s = state_of c.args.hart.now (memory.bytes c.args.mem.now) (memory.writable c.args.mem.now) in
     let w = c.args.word in (
       [],
-      KitAccesses (kits_illegal c.args.profile s w (next_stands s w c.requires.aligned c.requires.word) c.requires.illegal c.in-None.ensures.outside)
+      KitAccesses (kits_illegal c.args.profile s w c.requires.whole (next_stands s w c.requires.aligned c.requires.word) c.requires.illegal c.in-None.ensures.outside)
           (accesses_of_illegal s w c.requires.aligned c.requires.word c.requires.illegal),
       refl,
     )

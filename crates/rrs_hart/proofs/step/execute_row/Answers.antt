@@ -86,7 +86,7 @@ returns-in-Ok-clause-step g c = λ r.
     let step : Step s t (Ok tt) =
     subst (λ (a : StepAnswer). Step s t a) c.in-Ok.is (done.ensures.step h.last_register_write c.args.word c.requires.aligned c.requires.word c.requires.is) in
     let i = c.args.instruction.now in
-    OfKit (kits_legal c.args.profile s c.args.word (row_of i) (fields_of i) (next_stands s c.args.word c.requires.aligned c.requires.word) c.requires.is
+    OfKit (kits_legal c.args.profile s c.args.word (row_of i) (fields_of i) c.requires.whole (next_stands s c.args.word c.requires.aligned c.requires.word) c.requires.is
     (no_bytes_ok c.args.profile s t c.args.word (row_of i) (fields_of i) c.requires.aligned c.requires.word c.requires.is step)) step refl
 
 pub returns-in-Ok-clause-makes : goal.returns-in-Ok-clause-makes
@@ -101,7 +101,7 @@ returns-in-Ok-clause-makes g c = λ r.
     let i = c.args.instruction.now in (
       accesses_of_row (row_of i) (fields_of i) (cleared s),
       KitAccesses
-          (kits_legal c.args.profile s c.args.word (row_of i) (fields_of i) (next_stands s c.args.word c.requires.aligned c.requires.word) c.requires.is
+          (kits_legal c.args.profile s c.args.word (row_of i) (fields_of i) c.requires.whole (next_stands s c.args.word c.requires.aligned c.requires.word) c.requires.is
           (no_bytes_ok c.args.profile s t c.args.word (row_of i) (fields_of i) c.requires.aligned c.requires.word c.requires.is step))
           (accesses_of_legal s (cleared s) c.args.word (row_of i) (fields_of i) c.requires.aligned c.requires.word refl c.requires.is),
       c.execute_parts-end.ensures.makes,

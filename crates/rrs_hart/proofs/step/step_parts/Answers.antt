@@ -14,7 +14,7 @@ returns-in-Err-clause-step g c =
     let s = state_of c.args.hart.now (memory.bytes c.args.mem.now) (memory.writable c.args.mem.now) in
     let kept : cleared s ≡ record (state_of c.args.hart.now (memory.bytes c.fetch_word.new.mem) (memory.writable c.fetch_word.new.mem)) { last = None } =
     (λ k. record (state_of c.args.hart.now (sym c.fetch_word.ensures.bytes_kept k) (sym c.fetch_word.ensures.writable_kept k)) { last = None }) in
-    let kits = kits_unfetched c.args.profile s (c.in-Err.ensures.none s refl refl) in
+    let kits = kits_unfetched c.args.profile s c.requires.whole (c.in-Err.ensures.none s refl refl) in
     subst (λ x. HartStep c.args.profile (hart_with s c.args.reservation.now) (hart_with x c.args.reservation.now) (Err c.in-Err.fault)) kept
     (OfKit kits (c.in-Err.ensures.fault s refl refl) refl)
 
@@ -22,7 +22,7 @@ pub returns-in-Err-clause-accesses : goal.returns-in-Err-clause-accesses
 returns-in-Err-clause-accesses g c =
     let memory = g.M.Memory in
     let s = state_of c.args.hart.now (memory.bytes c.args.mem.now) (memory.writable c.args.mem.now) in
-    let kits = kits_unfetched c.args.profile s (c.in-Err.ensures.none s refl refl) in
+    let kits = kits_unfetched c.args.profile s c.requires.whole (c.in-Err.ensures.none s refl refl) in
     exactly_hart memory.reads memory.writes c.args.profile (hart_with s c.args.reservation.now) (read_if_aligned s s.pc Word) c.args.mem.now
     c.fetch_word.new.mem (KitAccesses kits (c.in-Err.ensures.alone s refl refl)) (c.fetch_word.ensures.makes s refl)
 
