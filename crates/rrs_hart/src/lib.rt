@@ -2,7 +2,8 @@
 //!
 //! [step_hart] makes one step of a hart whose [HartProfile] says which layers it has, and [run_hart]
 //! a run of them. Where no layer takes part, the step is the kit's own. `specs/Harts.antt` says what a
-//! step and a run are.
+//! step and a run are. A hart that has the compressed instructions fetches half-words, and its
+//! steps are those of `specs/Halves.antt`.
 //! [execute_atomic] executes an instruction of extension A (`specs/Atomics.antt`), and
 //! [access_by_bytes] a load or a store at any address (`specs/Anywhere.antt`).
 
