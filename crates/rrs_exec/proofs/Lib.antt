@@ -10,5 +10,3 @@ pub mod ProcessAccesses
 pub mod Stretches
 pub mod Telling
 pub mod MendedSteps
-pub mod MendedHarts
-pub mod MendedTold

@@ -1,5 +1,5 @@
 -- An instruction that is carried out after its fault, and a fault that stands.
-use Rattle.std.proofs.Common.{◌≡◌, ℕ, ◌%◌, Bool, true, false, if◌then◌else◌, List, [], ◌∷◌, Option, Some, None, Err, refl, sym, subst, ◌∙◌}
+use Rattle.std.proofs.Common.{◌≡◌, ℕ, ◌%◌, Bool, true, false, if◌then◌else◌, List, [], ◌∷◌, Option, Some, None, Ok, Err, refl, sym, subst, ◌∙◌}
 use Rattle.std.proofs.lemmas.Bool.{eq-eqb}
 use Rattle.std.proofs.lemmas.Option.{none-some}
 use Rattle.rrs_memory.specs.declared.MemAccessSize.{MemAccessSize}
@@ -16,7 +16,7 @@ use Rattle.rrs_lib.proofs.Making.{Makes-append}
 use Rattle.rrs_hart.specs.Atomics.{leaves}
 use Rattle.rrs_hart.specs.Harts.{moved}
 use Rattle.rrs_exec.specs.Mending.{looked_at, Mended, Stands, ByBytes, Swaps, Stays}
-use Rattle.rrs_hart.specs.Anywhere.{anywhere_by, accesses_anywhere, LeavesIf}
+use Rattle.rrs_hart.specs.Anywhere.{anywhere_by, accesses_anywhere, answer_of, LeavesIf}
 
 -- ---- what is read again
 
@@ -24,6 +24,11 @@ pub nothing_looked_at : (strict : Bool) (fault : InstructionException) (s : Stat
     → [] ≡ looked_at strict fault s
 nothing_looked_at true fault s pc w is = subst (λ x. [] ≡ looked_at true x s) (sym is) refl
 nothing_looked_at false fault s pc w is = subst (λ x. [] ≡ looked_at false x s) (sym is) refl
+
+-- an answer of which nothing more is told
+pub answer_plain : (answer : StepAnswer) → answer_of answer ≡ answer
+answer_plain (Ok tt) = refl
+answer_plain (Err e) = refl
 
 -- the word that a fetch reads
 pub next_is : (s : State) (w : ℕ) → s.pc % 4 ≡ 0 → little_endian s.bytes s.pc 4 ≡ Some w → next_word s ≡ Some w

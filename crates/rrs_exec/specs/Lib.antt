@@ -9,7 +9,6 @@ pub mod InitialStack
 pub mod Layouts
 pub mod Images
 pub mod Mending
-pub mod MendedRecords
 pub mod Processes
 pub mod Watching
 pub mod Progress

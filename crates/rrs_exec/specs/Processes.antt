@@ -18,19 +18,20 @@ use Rattle.rrs_linux.specs.declared.Process.{Process}
 use Rattle.rrs_linux.specs.declared.host_writer.HostWriter.{HostWriter}
 use Rattle.rrs_linux.specs.declared.host_side.HostSide.{HostSide}
 
--- the hart of a process: it has extension A, and misaligned loads and stores, unless these are strict
+-- All layers, as Linux has them for a process: misaligned loads and stores unless these are strict.
 abbrev pub process_profile : Bool → HartProfile
-process_profile strict = record { atomics = true; fence_i = false; misaligned = not strict }
+process_profile strict = record { atomics = true; fence_i = true; misaligned = not strict }
 
 -- What a run of a program does: how it ends, the environment and the state then, within a limit,
 -- from an environment and a state, after so many steps, with these accesses.
 abbrev pub Chain : Type 0 → Type 1
 Chain E = Ending → E → State → ℕ → E → State → ℕ → List Access → Type 0
 
--- The hart of a process runs and is served, with no address reserved where it begins.
-abbrev pub Executing : {E : Type 0} → Relation E → Bool → Chain E
-Executing serves strict ending e' t limit e s steps accesses =
-    (reserved : Option ℕ) × HartServed (process_profile strict) serves ending e' (hart_with t reserved)
+-- The hart of a process has this profile. It runs and is served, with no address reserved where it
+-- begins.
+abbrev pub Executing : {E : Type 0} → Relation E → HartProfile → Chain E
+Executing serves p ending e' t limit e s steps accesses =
+    (reserved : Option ℕ) × HartServed p serves ending e' (hart_with t reserved)
     limit e (hart_with s None) steps accesses
 
 -- a hart at its entry, all of whose registers are 0 but x2, which is sp

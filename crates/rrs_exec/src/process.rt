@@ -46,14 +46,14 @@ pub struct ProcessEnd {
     pub pc: u32,
 }
 
-/// The layers of the hart of a process: extension A, and misaligned loads and stores unless these
-/// are strict.
+/// The layers that the hart of a process has where none are named: extension A, `fence.i`, and
+/// misaligned loads and stores unless these are strict.
 pub fn process_profile(strict: bool) -> HartProfile
     ensures { result ≡ process_profile strict }
 {
     HartProfile {
         atomics: true,
-        fence_i: false,
+        fence_i: true,
         misaligned: !strict,
     }
 }
@@ -133,8 +133,8 @@ pub fn load_process(
 
 /// Runs a file's bytes as an executable with these arguments, of which the first is its name, and
 /// these environment variables, as `NAME=VALUE`, in a memory of so many bytes, and serves its system
-/// calls, for `limit` steps or until it ends or raises an exception. Its hart has the layers of
-/// [process_profile]. Its break begins after its segments, and the heap of the environment is set so.
+/// calls, for `limit` steps or until it ends or raises an exception. Its hart has the layers of the
+/// profile: [process_profile] is the usual one. Its break begins after its segments, and the heap of the environment is set so.
 /// The end has the steps that were made and the pc after them. The progress is told of its
 /// steps, and of its end.
 ///
@@ -148,12 +148,12 @@ pub fn execute_process<R: Read, W: Write, E: Write, P: Progress>(
     variables: &[String],
     wanted: u64,
     limit: u64,
-    strict: bool,
+    profile: HartProfile,
     environment: &mut Linux<R, W, E>,
     progress: &mut P,
 ) -> Result<ProcessEnd, ImageError>
     ensures executed { IfOk result (λ end. RunsProcess
-        (Executing (Serves R.remaining W.contents E.contents) strict)
+        (Executing (Serves R.remaining W.contents E.contents) profile)
         file.now (map string_bytes arguments.now) (map string_bytes variables.now) wanted limit
         environment.old environment.new end.steps end.pc end.ending) }
     ensures ceiling { IsExecutable file.now
@@ -170,7 +170,7 @@ pub fn execute_process<R: Read, W: Write, E: Write, P: Progress>(
         → IfErr result (λ error. error ≡ ImageError.OutOfMemory) }
 {
     let LoadedProcess { image, memory } = load_process(alloc, file, arguments, variables, wanted)?;
-    Ok(run_image(image, memory, limit, strict, environment, progress))
+    Ok(run_image(image, memory, limit, profile, environment, progress))
 }
 
 /// Runs a process whose memory is filled.
@@ -178,16 +178,16 @@ fn run_image<R: Read, W: Write, E: Write, P: Progress>(
     image: Image,
     memory: ProcessMemory,
     limit: u64,
-    strict: bool,
+    profile: HartProfile,
     environment: &mut Linux<R, W, E>,
     progress: &mut P,
 ) -> ProcessEnd
-    ensures { RunsImage (Executing (Serves R.remaining W.contents E.contents) strict) image
+    ensures { RunsImage (Executing (Serves R.remaining W.contents E.contents) profile) image
         (process_bytes memory) (process_writable memory) limit
         environment.old environment.new result.steps result.pc result.ending }
 {
     environment.heap = Heap::new(image.layout.heap_start, image.layout.heap_end);
-    serve_image(image, memory, limit, strict, environment, progress)
+    serve_image(image, memory, limit, profile, environment, progress)
 }
 
 /// Runs a process whose memory is filled, with what serves its calls, from the entry of its image,
@@ -196,11 +196,11 @@ pub fn serve_image<S: Environment, P: Progress>(
     image: Image,
     memory: ProcessMemory,
     limit: u64,
-    strict: bool,
+    profile: HartProfile,
     environment: &mut S,
     progress: &mut P,
 ) -> ProcessEnd
-    ensures { ServesImage (Executing S.serves strict) image
+    ensures { ServesImage (Executing S.serves profile) image
         (process_bytes memory) (process_writable memory) limit
         environment.old environment.new result.steps result.pc result.ending }
 {
@@ -220,7 +220,7 @@ pub fn serve_image<S: Environment, P: Progress>(
     };
     let mut runner = InPieces {
         runner: OwnHart {
-            profile: process_profile(strict),
+            profile,
             reservation: None,
         },
         progress: &mut *progress,

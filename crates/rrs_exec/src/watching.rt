@@ -4,6 +4,7 @@ ghost use Rattle.std.specs.Prelude.{◌≡◌, Bool, None, Err, map, string_byte
 ghost use Rattle.rrs_elf.specs.Executables.{IsExecutable};
 ghost use Rattle.rrs_exec.specs.Images.{AreLong, memory_refusal};
 ghost use Rattle.rrs_lib.specs.Executor.{state_in, KeepsTheRest};
+ghost use Rattle.rrs_hart.specs.Harts.{hart_with};
 ghost use Rattle.rrs_exec.specs.ProcessMemories.{process_bytes, process_writable};
 ghost use Rattle.rrs_exec.specs.Protection.{protected_bytes, protected_writable, protected_layout, protected_reads, ProtectedWrites};
 ghost use Rattle.rrs_trace.specs.declared.retired.Retired.{Retired};
@@ -13,16 +14,15 @@ ghost use Rattle.rrs_elf.specs.Refusals.{first_refusal, checks};
 ghost use Rattle.rrs_exec.specs.Watching.{ServesAt, Turn, IsWatched, WatchesImage, WatchesProcess};
 
 use crate::image::{Image, ImageError};
-use crate::mending::mend_retired;
 use crate::process::{KeptMemory, LoadedProcess, ProcessEnd, load_process, started};
 use crate::process_memory::ProcessMemory;
 use crate::progress::Progress;
 use crate::protected::ProtectedMemory;
 use rrs_fast::{CachedMemory, Ending, Environment, ServedEnd};
+use rrs_hart::HartProfile;
 use rrs_lib::Memory;
 use rrs_lib::instruction_executor::{InstructionException, InstructionExecutor};
 use rrs_linux::{Heap, Linux};
-use rrs_trace::Retired;
 use std::alloc::Global;
 use std::io::{Read, Write};
 
@@ -32,7 +32,8 @@ const PIECE: u64 = 1 << 16;
 /// What is shown each step of a run.
 pub trait Watcher {
     ghost use Rattle.rrs_lib.specs.Executor.{state_in, KeepsTheRest};
-    ghost use Rattle.rrs_lib.specs.Accesses.{AccessesOf, MakesExactly};
+    ghost use Rattle.rrs_lib.specs.Accesses.{MakesExactly};
+    ghost use Rattle.rrs_hart.specs.Harts.{hart_with, AccessesOfHart};
     ghost use Rattle.rrs_exec.specs.Protection.{protected_bytes, protected_writable, protected_layout, protected_reads, ProtectedWrites};
     ghost use Rattle.rrs_exec.specs.Watching.{SeesStep};
 
@@ -42,32 +43,32 @@ pub trait Watcher {
     /// Whether the watcher wants to see more.
     ghost wants: { Self → Bool };
 
-    /// Makes the step of this number of a process, and sees what it retired. Of an `ecall` that is
-    /// served, and of a fault, the record has `trap` set, and neither says what the call returns.
+    /// Makes the step of this number of a process, whose hart has this profile and this reservation,
+    /// and sees what it retired. Of an `ecall` that is served, and of a fault, the record has `trap`
+    /// set, and neither says what the call returns.
     ///
-    /// A watcher that needs no record makes the step by [step_cached](rrs_fast::step_cached), and
-    /// one that does by [step_retired](rrs_trace::step_retired).
+    /// A watcher that needs no record makes the step by [run_layers_cached], and one that does by
+    /// [step_hart_retired](rrs_trace::step_hart_retired).
     ///
     /// # Errors
     ///
-    /// The exceptions of `step`.
+    /// The exceptions of [step_hart](rrs_hart::step_hart).
     fn watch_step(
         &mut self,
         executor: &mut InstructionExecutor<KeptMemory>,
+        reservation: &mut Option<u32>,
+        profile: HartProfile,
         number: u64,
     ) -> Result<(), InstructionException>
-        ensures seen { SeesStep sees number self.old
-            (state_in protected_bytes protected_writable executor.old) result
-            (state_in protected_bytes protected_writable executor.new) self.new }
+        ensures seen { SeesStep profile sees number self.old
+            (hart_with (state_in protected_bytes protected_writable executor.old) reservation.old)
+            result
+            (hart_with (state_in protected_bytes protected_writable executor.new) reservation.new)
+            self.new }
         ensures rest { KeepsTheRest protected_layout executor.old executor.new }
-        ensures accesses { MakesExactly protected_reads ProtectedWrites
-            (AccessesOf (state_in protected_bytes protected_writable executor.old))
+        ensures accesses { MakesExactly protected_reads ProtectedWrites (AccessesOfHart profile
+            (hart_with (state_in protected_bytes protected_writable executor.old) reservation.old))
             executor.old.mem.now executor.new.mem.now };
-
-    /// Sees what an instruction retired that was carried out after its fault. `watch_step` saw the
-    /// fault.
-    fn see_mended(&mut self, retired: &Retired)
-        ensures { sees self.old retired.now self.new };
 
     /// Whether the run is to go on. It is asked before each step.
     fn wants_more(&self) -> bool
@@ -103,41 +104,35 @@ fn wants_more<V: Watcher>(watcher: &V) -> bool
     watcher.wants_more()
 }
 
-/// Has a watcher make the step of this number, and has an `ecall` served. The instruction of a
-/// fault is carried out where [mend](crate::mend) does so, and the watcher sees it then. The answer
-/// is `None` where the program goes on, or the status with which the call ended it.
+/// Has a watcher make the step of this number, and has an `ecall` served. The answer is `None` where
+/// the program goes on, or the status with which the call ended it.
 ///
 /// # Errors
 ///
-/// Those of [mend](crate::mend), for the exceptions of `step` but `EnvironmentCall`.
+/// The exceptions of the step but `EnvironmentCall`.
 fn take_turn<E: Environment, V: Watcher>(
     executor: &mut InstructionExecutor<KeptMemory>,
     environment: &mut E,
     reservation: &mut Option<u32>,
+    profile: HartProfile,
     watcher: &mut V,
     number: u64,
 ) -> Result<Option<u32>, InstructionException>
     ensures turn { MakesSome protected_reads ProtectedWrites
-        (Turn E.serves V.sees number reservation.old
-        environment.old (state_in protected_bytes protected_writable executor.old)
-        watcher.old result reservation.new
-        environment.new (state_in protected_bytes protected_writable executor.new)
+        (Turn profile E.serves V.sees number environment.old
+        (hart_with (state_in protected_bytes protected_writable executor.old) reservation.old)
+        watcher.old result environment.new
+        (hart_with (state_in protected_bytes protected_writable executor.new) reservation.new)
         watcher.new)
         executor.old.mem.now executor.new.mem.now }
     ensures rest { KeepsTheRest protected_layout executor.old executor.new }
 {
-    let Err(exception) = watcher.watch_step(executor, number) else {
+    let Err(exception) = watcher.watch_step(executor, reservation, profile, number) else {
         return Ok(None);
     };
     match exception {
         InstructionException::EnvironmentCall(pc) => Ok(serve_at(executor, environment, pc)),
-        fault => match mend_retired(executor, reservation, fault, number) {
-            Ok(retired) => {
-                watcher.see_mended(&retired);
-                Ok(None)
-            }
-            Err(left) => Err(left),
-        },
+        fault => Err(fault),
     }
 }
 
@@ -149,30 +144,32 @@ fn tell<P: Progress>(progress: &mut P, number: u64) {
     }
 }
 
-/// Makes steps up to `limit`, to an exception that is not mended, until the environment ends the
-/// program, or until the watcher wants no more, which ends the run as a limit does. Each step is
-/// shown, and the progress is told of each piece of them.
+/// Makes steps up to `limit`, to an exception, until the environment ends the program, or until the
+/// watcher wants no more, which ends the run as a limit does. No address is reserved at first. Each
+/// step is shown, and the progress is told of each piece of them.
 #[inline(never)]
 fn run_watched<E: Environment, V: Watcher, P: Progress>(
     executor: &mut InstructionExecutor<KeptMemory>,
     environment: &mut E,
+    reservation: &mut Option<u32>,
+    profile: HartProfile,
     watcher: &mut V,
     limit: u64,
     progress: &mut P,
 ) -> ServedEnd
-    ensures watched { IsWatched E.serves V.sees V.wants limit
-        environment.old (state_in protected_bytes protected_writable executor.old) watcher.old
-        result.steps result.ending
-        environment.new (state_in protected_bytes protected_writable executor.new) watcher.new }
+    ensures watched { IsWatched profile E.serves V.sees V.wants limit environment.old
+        (hart_with (state_in protected_bytes protected_writable executor.old) reservation.old)
+        watcher.old result.steps result.ending environment.new
+        (hart_with (state_in protected_bytes protected_writable executor.new) reservation.new)
+        watcher.new }
     ensures rest { KeepsTheRest protected_layout executor.old executor.new }
 {
-    let mut reservation = None;
     for steps in 0..limit {
         if !wants_more(watcher) {
             let ending = Ending::Limit;
             return ServedEnd { steps, ending };
         }
-        match take_turn(executor, environment, &mut reservation, watcher, steps) {
+        match take_turn(executor, environment, reservation, profile, watcher, steps) {
             Ok(None) => tell(progress, steps),
             Ok(Some(status)) => {
                 return ServedEnd {
@@ -197,11 +194,12 @@ fn watch_image<R: Read, W: Write, E: Write, V: Watcher, P: Progress>(
     image: Image,
     memory: ProcessMemory,
     limit: u64,
+    profile: HartProfile,
     environment: &mut Linux<R, W, E>,
     watcher: &mut V,
     progress: &mut P,
 ) -> ProcessEnd
-    ensures { WatchesImage R.remaining W.contents E.contents V.sees V.wants image
+    ensures { WatchesImage profile R.remaining W.contents E.contents V.sees V.wants image
         (process_bytes memory) (process_writable memory) limit
         environment.old environment.new watcher.old watcher.new
         result.steps result.pc result.ending }
@@ -221,9 +219,12 @@ fn watch_image<R: Read, W: Write, E: Write, V: Watcher, P: Progress>(
         mem: &mut cached,
         hart_state: &mut hart,
     };
+    let mut reservation = None;
     let ServedEnd { steps, ending } = run_watched(
         &mut executor,
         environment,
+        &mut reservation,
+        profile,
         watcher,
         limit,
         progress,
@@ -233,10 +234,9 @@ fn watch_image<R: Read, W: Write, E: Write, V: Watcher, P: Progress>(
     ProcessEnd { ending, steps, pc }
 }
 
-/// Runs a file's bytes as [execute_process](crate::execute_process) does where misaligned addresses
-/// are not strict, and shows each step to a watcher: once, in order, with its number from 0 on. A
-/// fault is shown too, though it counts as no step. Where its instruction is carried out, that is
-/// shown behind it, with the same number.
+/// Runs a file's bytes as [execute_process](crate::execute_process) does, and shows each step to a
+/// watcher: once, in order, with its number from 0 on. A fault is shown too, though it counts as no
+/// step.
 ///
 /// Where the watcher wants no more the run ends as it does at the limit, after the steps that were
 /// shown.
@@ -251,11 +251,12 @@ pub fn watch_process<R: Read, W: Write, E: Write, V: Watcher, P: Progress>(
     variables: &[String],
     wanted: u64,
     limit: u64,
+    profile: HartProfile,
     environment: &mut Linux<R, W, E>,
     watcher: &mut V,
     progress: &mut P,
 ) -> Result<ProcessEnd, ImageError>
-    ensures watched { IfOk result (λ end. WatchesProcess R.remaining W.contents E.contents
+    ensures watched { IfOk result (λ end. WatchesProcess profile R.remaining W.contents E.contents
         V.sees V.wants file.now (map string_bytes arguments.now) (map string_bytes variables.now)
         wanted limit
         environment.old environment.new watcher.old watcher.new
@@ -275,5 +276,5 @@ pub fn watch_process<R: Read, W: Write, E: Write, V: Watcher, P: Progress>(
         → IfErr result (λ error. error ≡ ImageError.OutOfMemory) }
 {
     let LoadedProcess { image, memory } = load_process(alloc, file, arguments, variables, wanted)?;
-    Ok(watch_image(image, memory, limit, environment, watcher, progress))
+    Ok(watch_image(image, memory, limit, profile, environment, watcher, progress))
 }

@@ -10,3 +10,5 @@ pub mod Chains
 pub mod WholeWords
 pub mod KitsWords
 pub mod HartRuns
+pub mod HartLast
+pub mod HartFaults

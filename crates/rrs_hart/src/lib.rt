@@ -21,4 +21,4 @@ pub use bytes::{ByteAccess, access_by_bytes};
 pub use halves::Encoding;
 pub use profile::{HartProfile, decode_in};
 pub use runs::run_hart;
-pub use step::{execute_word, step_hart};
+pub use step::{execute_word, execute_word_told, step_hart};

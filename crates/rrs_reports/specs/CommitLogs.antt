@@ -10,6 +10,7 @@ use Rattle.rrs_fast.specs.declared.serving.Ending.{Ending}
 use Rattle.rrs_linux.specs.declared.Process.{Process}
 use Rattle.rrs_linux.specs.declared.host_writer.HostWriter.{HostWriter}
 use Rattle.rrs_linux.specs.declared.host_side.HostSide.{HostSide}
+use Rattle.rrs_hart.specs.declared.profile.HartProfile.{HartProfile}
 use Rattle.rrs_reports.specs.Records.{RunsWithRecords}
 use Rattle.rrs_reports.specs.declared.commit_log.CodeRange.{CodeRange}
 use Rattle.rrs_reports.specs.declared.commit_log.StepRange.{StepRange}
@@ -169,15 +170,14 @@ wants_lines log = if log.is_broken then false else true
 
 -- ---- a run with its log
 
--- A run is one of `execute_process` whose misaligned addresses are not strict, with so many steps,
--- and its log is what was written.
-pub record TracesProcess {R W E : Type 0} (remaining : R → Option (List ℕ))
+-- A run is one of `execute_process`, with so many steps, and its log is what was written.
+pub record TracesProcess {R W E : Type 0} (p : HartProfile) (remaining : R → Option (List ℕ))
     (contents : W → Option (List ℕ)) (errors_of : E → Option (List ℕ))
     (file : List ℕ) (arguments variables : List (List ℕ)) (wanted limit : ℕ)
     (old new : Process R (HostWriter W) (HostWriter E) HostSide)
     (steps pc : ℕ) (ending : Ending) (window : LogWindow) (before after : Option (List ℕ))
     : Type 0 where
   pub records : List Retired
-  pub runs : RunsWithRecords remaining contents errors_of file arguments variables wanted limit
+  pub runs : RunsWithRecords p remaining contents errors_of file arguments variables wanted limit
       old new steps pc ending records
   pub written : Appends before after (log_text window (map entry_of records))

@@ -12,6 +12,7 @@ use Rattle.rrs_board.specs.declared.board.Board.{Board}
 use Rattle.rrs_board.specs.declared.effects.BoardEvent.{BoardEvent}
 use Rattle.rrs_board.specs.declared.runs.RecordedStep.{RecordedStep}
 use Rattle.rrs_board.specs.Inputs.{Listener}
+use Rattle.rrs_hart.specs.declared.profile.HartProfile.{HartProfile}
 use Rattle.rrs_reports.specs.Records.{RunsWithRecords}
 use Rattle.rrs_reports.specs.BoardRecords.{BoardWithRecords}
 use Rattle.rrs_reports.specs.declared.coverage.Coverage.{Coverage}
@@ -67,15 +68,14 @@ pub record Covers (records : List Retired) (c : Coverage) : Type 0 where
   pub elsewhere : c.elsewhere
       ≡ capped (count_by (begins_elsewhere c.base (length c.counts.items)) records)
 
--- A run is one of `execute_process` whose misaligned addresses are not strict, with so many steps,
--- and the counts are those of its steps.
-pub record CoversProcess {R W E : Type 0} (remaining : R → Option (List ℕ))
+-- A run is one of `execute_process`, with so many steps, and the counts are those of its steps.
+pub record CoversProcess {R W E : Type 0} (p : HartProfile) (remaining : R → Option (List ℕ))
     (contents : W → Option (List ℕ)) (errors_of : E → Option (List ℕ))
     (file : List ℕ) (arguments variables : List (List ℕ)) (wanted limit : ℕ)
     (old new : Process R (HostWriter W) (HostWriter E) HostSide)
     (steps pc : ℕ) (ending : Ending) (c : Coverage) : Type 0 where
   pub records : List Retired
-  pub runs : RunsWithRecords remaining contents errors_of file arguments variables wanted limit
+  pub runs : RunsWithRecords p remaining contents errors_of file arguments variables wanted limit
       old new steps pc ending records
   pub covers : Covers records c
 

@@ -1,12 +1,13 @@
--- The records of a run: what each of its steps retired, in order, and after them that of a fault. A
--- step that is carried out after its fault has two: that of the fault, and its own behind it.
-use Rattle.std.specs.Prelude.{◌≡◌, ℕ, List, [], ◌∷◌, ◌++◌, Bool, true, false, Option}
+-- The records of a run: what each of its steps retired, in order, and after them that of a fault.
+use Rattle.std.specs.Prelude.{◌≡◌, ℕ, List, [], ◌∷◌, ◌++◌, Bool, true, Option, None}
 use Rattle.rrs_trace.specs.declared.retired.Retired.{Retired}
 use Rattle.rrs_fast.specs.declared.serving.Ending.{Ending}
 use Rattle.rrs_linux.specs.declared.Process.{Process}
 use Rattle.rrs_linux.specs.declared.host_writer.HostWriter.{HostWriter}
 use Rattle.rrs_linux.specs.declared.host_side.HostSide.{HostSide}
 use Rattle.rrs_linux.specs.SystemCalls.{Serves}
+use Rattle.rrs_hart.specs.declared.profile.HartProfile.{HartProfile}
+use Rattle.rrs_hart.specs.Harts.{hart_with}
 use Rattle.rrs_exec.specs.Processes.{Executing, heap_of, RunsProcess}
 use Rattle.rrs_exec.specs.Watching.{Shown, start_in}
 
@@ -17,15 +18,16 @@ keeps records r all = all ≡ records ++ r ∷ []
 abbrev pub wants_all : {R : Type 0} → List R → Bool
 wants_all records = true
 
--- A process is loaded and runs for so many steps, and these are the records of its run.
-pub record RunsWithRecords {R W E : Type 0} (remaining : R → Option (List ℕ))
+-- A process is loaded and runs on a hart with a profile for so many steps, and these are the records
+-- of its run.
+pub record RunsWithRecords {R W E : Type 0} (p : HartProfile) (remaining : R → Option (List ℕ))
     (contents : W → Option (List ℕ)) (errors_of : E → Option (List ℕ))
     (file : List ℕ) (arguments variables : List (List ℕ)) (wanted limit : ℕ)
     (old new : Process R (HostWriter W) (HostWriter E) HostSide)
     (steps pc : ℕ) (ending : Ending) (records : List Retired) : Type 0 where
-  pub runs : RunsProcess (Executing (Serves remaining contents errors_of) false)
+  pub runs : RunsProcess (Executing (Serves remaining contents errors_of) p)
       file arguments variables wanted limit old new steps pc ending
-  pub shown : Shown (Serves remaining contents errors_of) keeps wants_all
+  pub shown : Shown p (Serves remaining contents errors_of) keeps wants_all
       (record old { heap = heap_of runs.image })
-      (start_in runs.image runs.bytes runs.writable) []
-      ending steps new runs.runs.end records
+      (hart_with (start_in runs.image runs.bytes runs.writable) None) []
+      ending steps new (hart_with runs.runs.end runs.runs.served.0) records

@@ -7,10 +7,11 @@ ghost use Rattle.rrs_reports.specs.CommitLogs.{committed, written_text, store_di
 use arrayvec::ArrayString;
 use itoa::Buffer;
 use rrs_exec::{ImageError, KeptMemory, ProcessEnd, Progress, Watcher, watch_process};
+use rrs_hart::HartProfile;
 use rrs_lib::disassembly::hexadecimal_digits;
 use rrs_lib::instruction_executor::{InstructionException, InstructionExecutor};
 use rrs_linux::Linux;
-use rrs_trace::{MemoryAccess, Retired, step_retired};
+use rrs_trace::{MemoryAccess, Retired, step_hart_retired};
 use std::alloc::Global;
 use std::io::{Read, Write};
 
@@ -283,15 +284,13 @@ impl<'a, W: Write> Watcher for CommitLog<'a, W> {
     fn watch_step(
         &mut self,
         executor: &mut InstructionExecutor<KeptMemory>,
+        reservation: &mut Option<u32>,
+        profile: HartProfile,
         number: u64,
     ) -> Result<(), InstructionException> {
-        let (answer, retired) = step_retired(executor, number);
+        let (answer, retired) = step_hart_retired(executor, reservation, profile, number);
         self.see(&retired);
         answer
-    }
-
-    fn see_mended(&mut self, retired: &Retired) {
-        self.see(retired);
     }
 
     fn wants_more(&self) -> bool {
@@ -308,9 +307,9 @@ pub enum TraceError {
     Output,
 }
 
-/// Runs a file's bytes as [execute_process](rrs_exec::execute_process) does where misaligned
-/// addresses are not strict, and writes the commit log: a line for each step that the window has. A
-/// load or a store at a misaligned address has its whole access there.
+/// Runs a file's bytes as [execute_process](rrs_exec::execute_process) does, and writes the commit
+/// log: a line for each step that the window has. A load or a store at a misaligned address has its
+/// whole access there.
 ///
 /// # Errors
 ///
@@ -322,12 +321,13 @@ pub fn trace_process<R: Read, W: Write, E: Write, O: Write, P: Progress>(
     variables: &[String],
     wanted: u64,
     limit: u64,
+    profile: HartProfile,
     environment: &mut Linux<R, W, E>,
     window: LogWindow,
     out: &mut O,
     progress: &mut P,
 ) -> Result<ProcessEnd, TraceError>
-    ensures traced { IfOk result (λ end. TracesProcess R.remaining W.contents E.contents
+    ensures traced { IfOk result (λ end. TracesProcess profile R.remaining W.contents E.contents
         file.now (map string_bytes arguments.now) (map string_bytes variables.now) wanted limit
         environment.old environment.new end.steps end.pc end.ending
         window (O.contents out.old) (O.contents out.new)) }
@@ -344,6 +344,7 @@ pub fn trace_process<R: Read, W: Write, E: Write, O: Write, P: Progress>(
         variables,
         wanted,
         limit,
+        profile,
         environment,
         &mut log,
         progress,

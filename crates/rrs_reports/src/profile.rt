@@ -2,9 +2,9 @@
 
 ghost use Rattle.std.specs.Prelude.{◌≡◌, ◌≢◌, ℕ, true, Some, map, replicate, string_bytes, IfOk, OnErr};
 ghost use Rattle.std.specs.Bool.{OnTrue, OnFalse};
-ghost use Rattle.rrs_lib.specs.Machine.{State};
-ghost use Rattle.rrs_lib.specs.Steps.{Step};
-ghost use Rattle.rrs_trace.specs.Retired.{Retires};
+ghost use Rattle.rrs_hart.specs.declared.profile.HartProfile.{HartProfile as TheProfile};
+ghost use Rattle.rrs_hart.specs.Harts.{Hart, HartStep};
+ghost use Rattle.rrs_trace.specs.HartRecords.{HartRetires};
 ghost use Rattle.rrs_exec.specs.Protection.{protected_bytes};
 ghost use Rattle.rrs_trace.specs.declared.retired.Retired.{Retired};
 ghost use Rattle.rrs_reports.specs.CommitLogs.{ecall};
@@ -12,10 +12,10 @@ ghost use Rattle.rrs_reports.specs.Coverages.{Counts, CoversProcess, is_step, wo
 
 use crate::calls::Calls;
 use crate::code::Code;
-use crate::commit_log::{ECALL, committed_word};
+use crate::commit_log::ECALL;
 use crate::coverage::Coverage;
 use rrs_exec::{ImageError, KeptMemory, ProcessEnd, Progress, Watcher, watch_process};
-use rrs_fast::step_cached;
+use rrs_hart::{HartProfile, step_hart};
 use rrs_lib::instruction_executor::{InstructionException, InstructionExecutor};
 use rrs_lib::{MemAccessSize, Memory};
 use rrs_linux::Linux;
@@ -115,9 +115,9 @@ impl Profile<'_, '_> {
         next: u32,
         answer: Result<(), InstructionException>,
     )
-        ensures counts { (n : ℕ) (s t : State) (r : Retired) → s.pc ≡ pc
-            → t.bytes ≡ protected_bytes memory.old → Step s t answer → Retires n s t answer r
-            → Counts self.old.coverage r self.new.coverage }
+        ensures counts { (p : TheProfile) (n : ℕ) (s t : Hart) (r : Retired) → s.state.pc ≡ pc
+            → t.state.bytes ≡ protected_bytes memory.old → HartStep p s t answer
+            → HartRetires p n s t answer r → Counts self.old.coverage r self.new.coverage }
         ensures kept { memory.new ≡ memory.old }
     {
         match answer {
@@ -146,20 +146,14 @@ impl Watcher for Profile<'_, '_> {
     fn watch_step(
         &mut self,
         executor: &mut InstructionExecutor<KeptMemory>,
+        reservation: &mut Option<u32>,
+        profile: HartProfile,
         number: u64,
     ) -> Result<(), InstructionException> {
         let pc = executor.hart_state.pc;
-        let answer = step_cached(executor);
+        let answer = step_hart(executor, reservation, profile);
         self.see(executor.mem, number, pc, executor.hart_state.pc, answer);
         answer
-    }
-
-    /// The word is no jump.
-    fn see_mended(&mut self, retired: &Retired) {
-        match committed_word(retired) {
-            Some(_) => self.count(retired.order, retired.pc_rdata, 0),
-            None => {}
-        }
     }
 
     fn wants_more(&self) -> bool {
@@ -167,9 +161,8 @@ impl Watcher for Profile<'_, '_> {
     }
 }
 
-/// Runs a file's bytes as [execute_process](rrs_exec::execute_process) does where misaligned
-/// addresses are not strict, and gives what the run covered of its code. A count is the number of
-/// steps of the run whose pc a word has.
+/// Runs a file's bytes as [execute_process](rrs_exec::execute_process) does, and gives what the run
+/// covered of its code. A count is the number of steps of the run whose pc a word has.
 ///
 /// # Errors
 ///
@@ -182,15 +175,16 @@ pub fn cover_process<'a, 'b, R: Read, W: Write, E: Write, P: Progress>(
     variables: &[String],
     wanted: u64,
     limit: u64,
+    profile: HartProfile,
     environment: &mut Linux<R, W, E>,
     progress: &mut P,
 ) -> Result<(ProcessEnd, Profile<'a, 'b>), ImageError>
-    ensures covered { IfOk result (λ run. CoversProcess R.remaining W.contents E.contents
+    ensures covered { IfOk result (λ run. CoversProcess profile R.remaining W.contents E.contents
         file.now (map string_bytes arguments.now) (map string_bytes variables.now) wanted limit
         environment.old environment.new run.0.steps run.0.pc run.0.ending run.1.coverage) }
     ensures kept { OnErr result (environment.new ≡ environment.old) }
 {
-    let Ok(mut profile) = Profile::new(alloc, code) else {
+    let Ok(mut covered) = Profile::new(alloc, code) else {
         return Err(ImageError::OutOfMemory);
     };
     let end = watch_process(
@@ -200,10 +194,11 @@ pub fn cover_process<'a, 'b, R: Read, W: Write, E: Write, P: Progress>(
         variables,
         wanted,
         limit,
+        profile,
         environment,
-        &mut profile,
+        &mut covered,
         progress,
     )?;
-    profile.calls.finish(end.steps);
-    Ok((end, profile))
+    covered.calls.finish(end.steps);
+    Ok((end, covered))
 }

@@ -9,6 +9,7 @@ pub use Rattle.rrs_lib.specs.Executor
 pub use Rattle.rrs_lib.specs.Accesses
 -- What a step retires, and the memory that sees it.
 pub mod Retired
+pub mod HartRecords
 pub mod Traced
 -- Runs that stop at addresses.
 pub mod Stops

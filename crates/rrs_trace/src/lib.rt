@@ -2,7 +2,8 @@
 //!
 //! [step_retired] makes a step and tells what it retired, in the shape of RVFI, the RISC-V Formal
 //! Interface, and [step_retired_parts] does so of a hart that is kept in another layout.
-//! [TracedMemory] is the memory under both, which keeps the latest access that is no fetch.
+//! [step_hart_retired] does so of a hart with a profile.
+//! [TracedMemory] is the memory under all three, which keeps the latest access that is no fetch.
 //! [run_until] makes steps until the pc is one of some addresses, and [run_until_cached] does so
 //! over a memory that keeps its decoded words. [request] and [complete] execute an instruction
 //! whose load or store the caller makes, outside of the machine, [request_parts] and
@@ -10,11 +11,13 @@
 //! [complete_store] the one at which a run ended with an access fault. A [Snapshot] keeps the state
 //! of a hart.
 //!
-//! What a step retires is written in `specs/Retired.antt`, what a run that stops is in
+//! What a step retires is written in `specs/Retired.antt`, that of a hart with a profile in
+//! `specs/HartRecords.antt`, what a run that stops is in
 //! `specs/Stops.antt`, and what is asked and completed in `specs/Outside.antt`.
 
 #![tactic(auto)]
 
+mod hart_retired;
 mod outside;
 mod registers;
 mod retired;
@@ -22,6 +25,7 @@ mod snapshot;
 mod stops;
 mod traced;
 
+pub use hart_retired::step_hart_retired;
 pub use outside::{
     DataRequest, complete, complete_load, complete_parts, complete_store, request, request_parts,
 };

@@ -1,4 +1,4 @@
-use Rattle.std.proofs.Common.{◌≡◌, ◌∷◌, false, Some, None, Err, sym, subst, ap, ◌∙◌, refl, IfOk, IfSome}
+use Rattle.std.proofs.Common.{◌≡◌, ◌∷◌, false, Some, None, Err, sym, subst, ◌∙◌, refl}
 use Rattle.std.proofs.lemmas.Option.{none-some, same_Some}
 use Rattle.rrs_instruction.specs.Instructions.{row_of, fields_of}
 use Rattle.rrs_instruction.specs.Table.{table, Decodes}
@@ -6,10 +6,8 @@ use Rattle.rrs_lib.specs.declared.MemAccessSize.TheVariants.{Word}
 use Rattle.rrs_lib.specs.Machine.{state_of}
 use Rattle.rrs_lib.specs.Steps.{next_word}
 use Rattle.rrs_lib.specs.Accesses.{Makes, fetch, read_if_aligned}
-use Rattle.rrs_hart.specs.Harts.{moved}
 use Rattle.rrs_exec.specs.Mending.{Mended}
-use Rattle.rrs_hart.specs.Anywhere.{anywhere_by, accesses_anywhere, answer_of, answer_if, LeavesIf, told_anywhere}
-use Rattle.rrs_exec.proofs.MendedTold.{ok_more, told_as, of_access}
+use Rattle.rrs_hart.specs.Anywhere.{anywhere_by, accesses_anywhere, answer_of, answer_if, LeavesIf}
 use Rattle.rrs_exec.proofs.MendedSteps.{next_is, by_bytes, is_none, none_accessed, behind_fetch, stays_put}
 use Rattle.rrs_exec.proofs.mending.access_at_pc.Goals as goal
 
@@ -61,17 +59,17 @@ returns-in-Some-access_by_bytes-clause-mended g c = λ address r is.
     let bytes = memory.bytes done.new.mem in
     let writable = memory.writable done.new.mem in
     let u = state_of done.new.hart bytes writable in
-    let answer = answer_of c.in-Some-access_by_bytes.answer in
+    let answer = answer_of c.in-Some-access_by_bytes.told in
     let left : LeavesIf (anywhere_by action f s) s u (Some answer) =
     subst (λ a. LeavesIf (anywhere_by action f s) s u (answer_if a)) c.in-Some-access_by_bytes.is
     (subst (λ x. LeavesIf (anywhere_by action f x) x u (answer_if done.result)) after done.ensures.outcome) in
     let made = subst (λ x. Makes memory.reads memory.writes (accesses_anywhere action f x) c.fetch_word.new.mem done.new.mem) after done.ensures.makes in
     let gone = c.go_on.ensures in
     let mended = by_bytes c.args.fault address c.in-Ok.word (row_of i) f s (state_of c.go_on.new.hart bytes writable) u r answer (anywhere_by action f s)
-    refl left (gone.moved bytes writable ∙ ap (moved 4 u) c.told.ensures.same) is (next_is s c.in-Ok.word word.0 word.1) c.in-Some.ensures.decoded in
+    refl left (gone.moved bytes writable) is (next_is s c.in-Ok.word word.0 word.1) c.in-Some.ensures.decoded in
     record {
       accesses = fetch s ∷ accesses_anywhere action f s;
-      these = subst (λ a. Mended false c.args.fault r s r (state_of c.go_on.new.hart bytes writable) a (fetch s ∷ accesses_anywhere action f s)) (sym (gone.same ∙ c.told.ensures.same)) mended;
+      these = subst (λ a. Mended false c.args.fault r s r (state_of c.go_on.new.hart bytes writable) a (fetch s ∷ accesses_anywhere action f s)) (sym gone.same) mended;
       made = behind_fetch memory.reads memory.writes s (accesses_anywhere action f s) c.args.mem.now _ _ word.0 (c.fetch_word.ensures.makes s refl) made;
     }
 
@@ -105,32 +103,3 @@ returns-in-None-clause-mended g c = λ address r is.
       these = subst (λ t. Mended false c.args.fault r s r t (Err c.args.fault) (read_if_aligned s s.pc Word)) (sym none.1) stays;
       made = subst (λ m. Makes memory.reads memory.writes (read_if_aligned s s.pc Word) c.args.mem.now m) (sym still) (c.fetch_word.ensures.makes s refl);
     }
-
--- what is told of it
-pub returns-in-Some-access_by_bytes-clause-carried : goal.returns-in-Some-access_by_bytes-clause-carried
-returns-in-Some-access_by_bytes-clause-carried g c =
-    let memory = g.M.Memory in
-    let s = state_of c.args.hart.now (memory.bytes c.args.mem.now) (memory.writable c.args.mem.now) in
-    let after : state_of c.args.hart.now (memory.bytes c.fetch_word.new.mem) (memory.writable c.fetch_word.new.mem) ≡ s =
-    (λ k. state_of c.args.hart.now (c.fetch_word.ensures.bytes_kept k) (c.fetch_word.ensures.writable_kept k)) in
-    let word = c.in-Ok.ensures.word in
-    let i = c.in-Some.instruction in
-    let action = (table (row_of i)).action in
-    let f = fields_of i in
-    let done = c.access_by_bytes in
-    let sources = c.source_registers-sources in
-    let told : IfSome done.result (λ a. IfOk a (λ y. told_anywhere action f s ≡ Some y)) =
-    subst (λ x. IfSome done.result (λ a. IfOk a (λ y. told_anywhere action f x ≡ Some y))) after done.ensures.told in
-    let of_answer : IfOk c.in-Some-access_by_bytes.answer (λ y. told_anywhere action f s ≡ Some y) =
-    subst (λ x. IfSome x (λ a. IfOk a (λ y. told_anywhere action f s ≡ Some y))) c.in-Some-access_by_bytes.is told in
-    ok_more c.go_on.result _ _ c.go_on.ensures.carried (λ x here address r is.
-    of_access c.args.fault address c.in-Ok.word (row_of i) f s r sources.result.0 sources.result.1 x is
-    (next_is s c.in-Ok.word word.0 word.1) c.in-Some.ensures.decoded sources.ensures.first sources.ensures.second here.0 here.1
-    (told_as c.told.result x.access (λ o. IfOk c.in-Some-access_by_bytes.answer (λ y. o ≡ Some y)) (told_anywhere action f s)
-    here.2 c.told.ensures.told of_answer))
-
-pub returns-in-Some-access_by_bytes-clause-low : goal.returns-in-Some-access_by_bytes-clause-low
-returns-in-Some-access_by_bytes-clause-low g c =
-    let sources = c.source_registers-sources in
-    ok_more c.go_on.result _ _ c.go_on.ensures.carried (λ x here.
-    (rw here.1 sources.ensures.first_low, rw here.1 sources.ensures.second_low))

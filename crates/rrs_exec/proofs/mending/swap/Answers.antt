@@ -1,13 +1,10 @@
 use Rattle.std.proofs.Common.{◌≡◌, refl, subst, ap, ◌∙◌, []}
 use Rattle.rrs_lib.specs.Machine.{state_of}
-use Rattle.rrs_lib.specs.Accesses.{fetch}
 use Rattle.rrs_words.specs.AtomicInstructions.{IsAtomic}
 use Rattle.rrs_hart.specs.Atomics.{AtomicOutcome, leaves, atomic_outcome, accesses_of_atomic}
 use Rattle.rrs_hart.specs.Harts.{moved_on}
 use Rattle.rrs_exec.specs.Mending.{Swaps, Stays}
-use Rattle.rrs_hart.specs.Anywhere.{answer_of}
-use Rattle.rrs_exec.proofs.MendedSteps.{nothing_looked_at}
-use Rattle.rrs_exec.proofs.MendedTold.{ok_more, told_by, of_atomic}
+use Rattle.rrs_exec.proofs.MendedSteps.{answer_plain, nothing_looked_at}
 use Rattle.rrs_exec.proofs.mending.swap.Goals as goal
 
 pub returns-clause-mended : goal.returns-clause-mended
@@ -16,17 +13,18 @@ returns-clause-mended g c = λ strict pc is.
     let s = state_of c.args.hart.now (memory.bytes c.args.mem.now) (memory.writable c.args.mem.now) in
     let r = c.args.reservation.now in
     let i = c.in-Some.instruction in
-    let done = c.execute_told-answer in
+    let done = c.execute_atomic-answer in
     let bytes = memory.bytes done.new.mem in
     let writable = memory.writable done.new.mem in
-    let left : AtomicOutcome = leaves (state_of done.new.hart bytes writable) done.new.reservation (answer_of done.result) in
+    let left : AtomicOutcome = leaves (state_of done.new.hart bytes writable) done.new.reservation done.result in
     let meant : AtomicOutcome = atomic_outcome i.row i.fields s r in
     let outcome : left ≡ meant = done.ensures.outcome in
     let gone = c.go_on.ensures in
     record {
       accesses = accesses_of_atomic i.row i.fields s r;
       these = Swaps pc c.args.word i.row i.fields is c.in-Some.ensures.decoded
-          ((λ k. leaves (gone.moved bytes writable k) done.new.reservation (gone.same k)) ∙ ap (moved_on 4) outcome) refl;
+          (subst (λ a. leaves (state_of c.go_on.new.hart bytes writable) done.new.reservation c.go_on.result ≡ moved_on 4 (leaves (state_of done.new.hart bytes writable) done.new.reservation a)) (answer_plain done.result)
+          (λ k. leaves (gone.moved bytes writable k) done.new.reservation (gone.same k)) ∙ ap (moved_on 4) outcome) refl;
       made = done.ensures.makes;
     }
 
@@ -44,13 +42,3 @@ returns-in_default-clause-mended g c = λ strict pc is.
       } refl refl refl (nothing_looked_at strict c.args.fault s pc c.args.word is);
       made = refl;
     }
-
-pub returns-clause-carried : goal.returns-clause-carried
-returns-clause-carried g c =
-    let memory = g.M.Memory in
-    let s = state_of c.args.hart.now (memory.bytes c.args.mem.now) (memory.writable c.args.mem.now) in
-    let i = c.in-Some.instruction in
-    let done = c.execute_told-answer in
-    ok_more c.go_on.result _ _ c.go_on.ensures.carried (λ x here pc is.
-    of_atomic c.args.fault pc c.args.word i.row i.fields s c.args.reservation.now x is c.in-Some.ensures.decoded here.0 here.1
-    (told_by done.result x.access _ here.2 done.ensures.told (fetch s)))

@@ -10,6 +10,6 @@ returns g c =
     let serves = Serves g.R.Read.remaining g.W.Write.contents g.E.Write.contents in
     let end = c.serve_image.result in
     subst
-    (λ heap. ServesImage (Executing serves c.args.strict) c.args.image (process_bytes c.args.memory) (process_writable c.args.memory)
+    (λ heap. ServesImage (Executing serves c.args.profile) c.args.image (process_bytes c.args.memory) (process_writable c.args.memory)
     c.args.limit (record c.args.environment.now { heap = heap }) c.serve_image.new.environment end.steps end.pc end.ending)
     c.new-environment.ensures c.serve_image.ensures

@@ -7,7 +7,6 @@ use Rattle.rrs_fast.specs.Serving.{HartServed}
 use Rattle.rrs_exec.specs.ProcessMemories.{process_bytes, process_writable}
 use Rattle.rrs_exec.specs.Processes.{started}
 use Rattle.rrs_exec.specs.Protection.{bytes_under, writable_under, protected_bytes, protected_writable}
-use Rattle.rrs_exec.proofs.MendedHarts.{executes}
 use Rattle.rrs_exec.proofs.process.serve_image.Goals as goal
 
 pub returns : goal.returns
@@ -29,8 +28,10 @@ returns g c =
       end = last;
       stands = refl;
       accesses = made.accesses;
-      served = executes g.S.Environment.serves c.args.strict _ c.process_profile.ensures _ _ _ _ _ _ _ _ _
-          (subst (λ s. HartServed c.process_profile.result g.S.Environment.serves end.ending new.environment
-          (hart_with last new.runner.runner.reservation) c.args.limit c.args.environment.now (hart_with s None) end.steps made.accesses)
-          starts made.these);
+      served = (
+        new.runner.runner.reservation,
+        subst (λ s. HartServed c.args.profile g.S.Environment.serves end.ending new.environment
+            (hart_with last new.runner.runner.reservation) c.args.limit c.args.environment.now (hart_with s None) end.steps made.accesses)
+            starts made.these,
+      );
     }

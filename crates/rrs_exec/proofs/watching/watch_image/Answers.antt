@@ -1,31 +1,35 @@
 -- The watched run begins in the image, with the heap that was set.
-use Rattle.std.proofs.Common.{subst, refl, false}
+use Rattle.std.proofs.Common.{subst, refl, None}
 use Rattle.rrs_lib.specs.Machine.{State, state_of}
 use Rattle.rrs_lib.specs.Executor.{state_in}
+use Rattle.rrs_hart.specs.Harts.{hart_with}
+use Rattle.rrs_fast.specs.Serving.{HartServed}
 use Rattle.rrs_exec.specs.ProcessMemories.{process_bytes, process_writable}
 use Rattle.rrs_exec.specs.Protection.{protected_bytes, protected_writable}
 use Rattle.rrs_exec.specs.declared.protected.ProtectedMemory.{ProtectedMemory}
 use Rattle.rrs_linux.specs.declared.Heap.{Heap}
 use Rattle.rrs_linux.specs.SystemCalls.{Serves}
-use Rattle.rrs_exec.specs.Processes.{Executing}
 use Rattle.rrs_exec.specs.Watching.{Shown, start_in}
 use Rattle.rrs_exec.proofs.watching.watch_image.Goals as goal
 
 pub returns : goal.returns
 returns g c =
     let image = c.args.image in
+    let p = c.args.profile in
     let serves = Serves g.R.Read.remaining g.W.Write.contents g.E.Write.contents in
     let bytes = process_bytes c.args.memory in
     let writable = process_writable c.args.memory in
     let watched = c.run_watched-steps.ensures.watched in
     let end = c.run_watched-steps.result in
     let new = c.run_watched-steps.new.environment in
-    let last = state_in protected_bytes protected_writable c.run_watched-steps.new.executor in
+    let reserved = c.run_watched-steps.new.reservation in
+    let stands = state_in protected_bytes protected_writable c.run_watched-steps.new.executor in
+    let last = hart_with stands reserved in
     let from = start_in image bytes writable in
     let P : Heap → State → Type 0 = λ heap s.
-    Executing serves false end.ending new last watched.most (record c.args.environment.now { heap = heap }) s end.steps watched.accesses in
+    HartServed p serves end.ending new last watched.most (record c.args.environment.now { heap = heap }) (hart_with s None) end.steps watched.accesses in
     let Q : Heap → State → Type 0 = λ heap s.
-    Shown serves g.V.Watcher.sees g.V.Watcher.wants (record c.args.environment.now { heap = heap }) s c.args.watcher.now end.ending end.steps new last c.run_watched-steps.new.watcher in
+    Shown p serves g.V.Watcher.sees g.V.Watcher.wants (record c.args.environment.now { heap = heap }) (hart_with s None) c.args.watcher.now end.ending end.steps new last c.run_watched-steps.new.watcher in
     let heaps = c.new-environment.ensures in
     let states = c.started-hart.ensures _ _ in
     let hart = c.started-hart.result in
@@ -38,10 +42,10 @@ returns g c =
       within = watched.within;
       all = watched.all;
       runs = record {
-        end = last;
+        end = stands;
         stands = refl;
         accesses = watched.accesses;
-        served = subst (λ heap. P heap from) heaps (subst (P c.new-environment.result) states served);
+        served = (reserved, subst (λ heap. P heap from) heaps (subst (P c.new-environment.result) states served));
       };
       shown = subst (λ heap. Q heap from) heaps (subst (Q c.new-environment.result) states shown);
     }

@@ -26,39 +26,26 @@ returns-in-Err-clause-accesses g c =
     exactly_hart memory.reads memory.writes c.args.profile (hart_with s c.args.reservation.now) (read_if_aligned s s.pc Word) c.args.mem.now
     c.fetch_word.new.mem (KitAccesses kits (c.in-Err.ensures.alone s refl refl)) (c.fetch_word.ensures.makes s refl)
 
--- the word is one of the 48 rows
-pub returns-in-Some-clause-step : goal.returns-in-Some-clause-step
-returns-in-Some-clause-step g c =
+-- a word is there
+pub returns-clause-step : goal.returns-clause-step
+returns-clause-step g c =
     let memory = g.M.Memory in
     let s = state_of c.args.hart.now (memory.bytes c.args.mem.now) (memory.writable c.args.mem.now) in
     let r = c.args.reservation.now in
     let after : state_of c.args.hart.now (memory.bytes c.fetch_word.new.mem) (memory.writable c.fetch_word.new.mem) ≡ s =
     (λ k. state_of c.args.hart.now (c.fetch_word.ensures.bytes_kept k) (c.fetch_word.ensures.writable_kept k)) in
-    let done = c.execute_row in
-    let t = hart_with (state_of done.new.hart (memory.bytes done.new.mem) (memory.writable done.new.mem)) r in
-    subst (λ x. HartStep c.args.profile (hart_with x r) t done.result) after (done.ensures.step r)
+    let done = c.execute_word in
+    let t = hart_with (state_of done.new.hart (memory.bytes done.new.mem) (memory.writable done.new.mem)) done.new.reservation in
+    subst (λ x. HartStep c.args.profile (hart_with x r) t done.result) after done.ensures.step
 
-pub returns-in-Some-clause-accesses : goal.returns-in-Some-clause-accesses
-returns-in-Some-clause-accesses g c =
+pub returns-clause-accesses : goal.returns-clause-accesses
+returns-clause-accesses g c =
     let memory = g.M.Memory in
     let s = state_of c.args.hart.now (memory.bytes c.args.mem.now) (memory.writable c.args.mem.now) in
     let r = c.args.reservation.now in
     let after : state_of c.args.hart.now (memory.bytes c.fetch_word.new.mem) (memory.writable c.fetch_word.new.mem) ≡ s =
     (λ k. state_of c.args.hart.now (c.fetch_word.ensures.bytes_kept k) (c.fetch_word.ensures.writable_kept k)) in
-    let made = c.execute_row.ensures.makes r in
+    let made = c.execute_word.ensures.makes in
     let are = subst (λ x. AccessesOfHart c.args.profile (hart_with x r) (fetch x ∷ made.0)) after made.1 in
-    exactly_fetched memory.reads memory.writes c.args.profile s r made.0 c.args.mem.now c.fetch_word.new.mem c.execute_row.new.mem c.in-Ok.ensures.word.0
-    (c.fetch_word.ensures.makes s refl) are made.2
-
--- it is none of them
-pub returns-in-None-clause-accesses : goal.returns-in-None-clause-accesses
-returns-in-None-clause-accesses g c =
-    let memory = g.M.Memory in
-    let s = state_of c.args.hart.now (memory.bytes c.args.mem.now) (memory.writable c.args.mem.now) in
-    let r = c.args.reservation.now in
-    let after : state_of c.args.hart.now (memory.bytes c.fetch_word.new.mem) (memory.writable c.fetch_word.new.mem) ≡ s =
-    (λ k. state_of c.args.hart.now (c.fetch_word.ensures.bytes_kept k) (c.fetch_word.ensures.writable_kept k)) in
-    let made = c.execute_outside.ensures.makes in
-    let are = subst (λ x. AccessesOfHart c.args.profile (hart_with x r) (fetch x ∷ made.0)) after made.1 in
-    exactly_fetched memory.reads memory.writes c.args.profile s r made.0 c.args.mem.now c.fetch_word.new.mem c.execute_outside.new.mem c.in-Ok.ensures.word.0
+    exactly_fetched memory.reads memory.writes c.args.profile s r made.0 c.args.mem.now c.fetch_word.new.mem c.execute_word.new.mem c.in-Ok.ensures.word.0
     (c.fetch_word.ensures.makes s refl) are made.2

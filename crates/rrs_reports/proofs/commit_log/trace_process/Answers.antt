@@ -19,7 +19,7 @@ returns-else-is_broken g c =
       is_broken = false;
     } in
     let whole : new.is_broken ≡ false = c.if-is_broken.false in
-    let k = run_kept _ _ _ _ wants_lines (λ rs v. Held contents window before start (map entry_of rs) v)
+    let k = run_kept _ _ _ _ _ wants_lines (λ rs v. Held contents window before start (map entry_of rs) v)
     (λ rs r v w held logs. held_of contents window before start entry_of rs r v w held logs)
     _ _ _ _ _ _ _ _ _ _ _ _ c.in-Ok.ensures.watched (ap (λ (b : Bool). if b then false else true) whole)
     (record { same_out = refl; whole = logged_none contents window _ refl }) in

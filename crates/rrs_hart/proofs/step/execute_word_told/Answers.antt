@@ -1,4 +1,4 @@
-use Rattle.rrs_hart.proofs.step.execute_word.Goals as goal
+use Rattle.rrs_hart.proofs.step.execute_word_told.Goals as goal
 
 pub returns-in-Some-clause-step : goal.returns-in-Some-clause-step
 returns-in-Some-clause-step g c = c.execute_row.ensures.step c.args.reservation.now
