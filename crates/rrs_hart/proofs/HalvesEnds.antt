@@ -1,20 +1,23 @@
 -- How the functions of halves.rt end.
-use Rattle.std.proofs.Common.{◌≡◌, ℕ, ◌%◌, ◌==◌, List, ◌++◌, ℤ, Bool, true, false, not, if◌then◌else◌, Option, Some, None, Ok, Err, refl, subst, ap, ◌∙◌}
+use Rattle.std.proofs.Common.{◌≡◌, ℕ, ◌%◌, ◌==◌, ◌≤◌, List, ◌++◌, ℤ, Bool, true, false, not, if◌then◌else◌, Option, Some, None, Result, Ok, Err, IfOk, IfSome, refl, sym, subst, ap, ◌∙◌}
+use Rattle.std.proofs.lemmas.Option.{same_Some}
 use Rattle.rrs_memory.specs.declared.MemAccessSize.{MemAccessSize}
 use Rattle.rrs_memory.specs.Bytes.{little_endian, all_writable}
 use Rattle.rrs_instruction.specs.Encodings.{Fields, R, I, IShamt, S, B, U, J}
 use Rattle.rrs_instruction.specs.Table.{Row, table, Action, Load, Store, BranchIf, BranchUnless, JumpAndLink, JumpAndLinkRegister}
 use Rattle.rrs_lib.specs.declared.instruction_executor.InstructionException.{InstructionException}
 use Rattle.rrs_lib.specs.declared.instruction_executor.InstructionException.TheVariants.{AlignmentFault}
-use Rattle.rrs_lib.specs.Machine.{State, reg, plus_immediate, Answer, Outcome, read_outcome, load_outcome, branch_outcome, granted_outcome, store_outcome, fault_outcome, outcome_by, Executes}
-use Rattle.rrs_lib.specs.Steps.{StepAnswer, answered}
+use Rattle.rrs_lib.specs.Machine.{State, reg, plus_immediate, Answer, Outcome, outcome, read_outcome, load_outcome, branch_outcome, granted_outcome, store_outcome, fault_outcome, outcome_by, Executes}
+use Rattle.rrs_lib.specs.Steps.{StepAnswer, cleared, answered}
 use Rattle.rrs_lib.specs.Accesses.{Access, Makes, MakesExactly, accesses_of_row}
 use Rattle.rrs_hart.specs.declared.profile.HartProfile.{HartProfile}
 use Rattle.rrs_hart.specs.Atomics.{AtomicOutcome, leaves}
-use Rattle.rrs_hart.specs.Anywhere.{anywhere_by, accesses_anywhere, LeavesIf}
+use Rattle.rrs_hart.specs.Anywhere.{anywhere_by, accesses_anywhere, told_anywhere, answer_of, LeavesIf}
 use Rattle.rrs_hart.specs.Profiles.{Hart, moved, moved_on}
-use Rattle.rrs_hart.specs.Halves.{advanced_by, Sized, IsCarriedOut, RowStep, AsBytes, AccessesOfRowStep, OfBytes, AccessesOfHalves}
-use Rattle.rrs_hart.proofs.HalvesSteps.{AccessesOfHalves-unique}
+use Rattle.rrs_hart.specs.declared.bytes.ByteAccess.{ByteAccess}
+use Rattle.rrs_hart.specs.declared.halves.Encoding.{Encoding}
+use Rattle.rrs_hart.specs.Halves.{fetched, StandsFor, IsNoRow, advanced_by, Sized, IsCarriedOut, IsNotCarriedOut, RowStep, AsBytes, AccessesOfRowStep, OfBytes, AccessesOfHalves, TellsRow, TellsHalves}
+use Rattle.rrs_hart.proofs.HalvesSteps.{AccessesOfHalves-unique, one_row_stands, same_Ok}
 
 -- ---- an exception leaves the state as it was
 
@@ -91,6 +94,62 @@ carried_by_bytes p n row f s t u a answer None does allowed is left goes = absur
 carried_by_bytes p n row f s t u a answer (Some o) does allowed is left goes =
     let at : IsCarriedOut p row f s a o = record { allowed = allowed; refused = does; carried = is } in
     (AsBytes a o at (goes ∙ (λ k. moved n (left.0 k) (left.1 k))) left.1, OfBytes a o at refl)
+
+-- ---- what is told
+
+-- a row that is Ok was not carried out
+whole_sized : (p : HartProfile) (n : ℕ) (row : Row) (f : Fields) (s t : State) → Sized n row f s t (Ok tt) → IsNotCarriedOut p row f s
+whole_sized p n row f s t sized = λ a o is.
+    let same : outcome sized.u sized.a ≡ outcome s (Err (AlignmentFault a)) = same_Some _ _ (sym sized.executes ∙ is.refused) in
+    let answers : Ok tt ≡ answered (Err (AlignmentFault a)) = sized.answers ∙ ap (λ (o : Outcome). answered o.answer) same in
+    cc (answers)
+
+pub tells_sized : (p : HartProfile) (n : ℕ) (row : Row) (f : Fields) (s t : State) → Sized n row f s t (Ok tt) → TellsRow p row f s None
+tells_sized p n row f s t sized = record {
+  by_bytes = λ a o is. absurd (whole_sized p n row f s t sized a o is);
+  of_others = λ none. refl;
+}
+
+pub tells_by_bytes : (p : HartProfile) (row : Row) (f : Fields) (s u : State) (a : ℕ) (x : Option Outcome)
+    → Executes row f s s (Err (AlignmentFault a)) → p.misaligned ≡ true → anywhere_by (table row).action f s ≡ x
+    → (told : Result ByteAccess InstructionException) (result : Result (Option ByteAccess) InstructionException)
+    → LeavesIf x s u (Some (answer_of told)) → IfOk told (λ y. told_anywhere (table row).action f s ≡ Some y)
+    → answer_of result ≡ answer_of told → IfOk result (λ v. IfOk told (λ y. v ≡ Some y)) → IfOk result (TellsRow p row f s)
+tells_by_bytes p row f s u a x does allowed is told (Err e) left tells answers gives = tt
+tells_by_bytes p row f s u a x does allowed is (Err e) (Ok v) left tells answers gives = absurd (cc (answers))
+tells_by_bytes p row f s u a None does allowed is (Ok y) (Ok v) left tells answers gives = absurd left
+tells_by_bytes p row f s u a (Some o) does allowed is (Ok y) (Ok v) left tells answers gives = record {
+  by_bytes = λ a' o' other. (y, gives, tells);
+  of_others = λ none. absurd (none a o (record { allowed = allowed; refused = does; carried = is }));
+}
+
+pub within_by_bytes : (told : Result ByteAccess InstructionException) (result : Result (Option ByteAccess) InstructionException)
+    → IfOk told (λ y. y.size ≤ 4) → answer_of result ≡ answer_of told → IfOk result (λ v. IfOk told (λ y. v ≡ Some y))
+    → IfOk result (λ v. IfSome v (λ y. y.size ≤ 4))
+within_by_bytes told (Err e) within answers gives = tt
+within_by_bytes (Err e) (Ok v) within answers gives = absurd (cc (answers))
+within_by_bytes (Ok y) (Ok v) within answers gives = subst (λ z. IfSome z (λ y. y.size ≤ 4)) (sym gives) within
+
+-- of a step
+pub tells_row : (p : HartProfile) (s : State) (x : Encoding) (row : Row) (f : Fields) → fetched s.bytes s.pc ≡ Ok x → StandsFor x row f
+    → (result : Result (Option ByteAccess) InstructionException) → IfOk result (TellsRow p row f (cleared s))
+    → IfOk result (λ v. IfSome v (λ y. y.size ≤ 4)) → IfOk result (TellsHalves p s)
+tells_row p s x row f is stands (Err e) tells within = tt
+tells_row p s x row f is stands (Ok told) tells within = record {
+  of_row = λ x' row' f' is' stands'.
+      let same = same_Ok x' x _ is' is in
+      let rows = one_row_stands x row row' f f' stands (subst (λ y. StandsFor y row' f') same stands') in
+      subst (λ y. TellsRow p row' y (cleared s) told) rows.1 (subst (λ y. TellsRow p y f (cleared s) told) rows.0 tells);
+  of_others = λ x' is' none. absurd (none row f (subst (λ y. StandsFor y row f) (same_Ok x x' _ is is') stands));
+  within = within;
+}
+
+pub tells_outside : (p : HartProfile) (s : State) (x : Encoding) → fetched s.bytes s.pc ≡ Ok x → IsNoRow x → TellsHalves p s None
+tells_outside p s x is none = record {
+  of_row = λ x' row f is' stands. absurd (none row f (subst (λ y. StandsFor y row f) (same_Ok x' x _ is' is) stands));
+  of_others = λ x' is' none'. refl;
+  within = tt;
+}
 
 -- ---- an instruction of a layer
 

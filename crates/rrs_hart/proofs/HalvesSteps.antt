@@ -35,7 +35,7 @@ same_Ok x y o is is' =
     let same : an_encoding x ≡ an_encoding y = sym is ∙ is' in
     cc
 
-same_Err : (e e' : InstructionException) (o : Result Encoding InstructionException) → o ≡ Err e → o ≡ Err e' → e ≡ e'
+pub same_Err : (e e' : InstructionException) (o : Result Encoding InstructionException) → o ≡ Err e → o ≡ Err e' → e ≡ e'
 same_Err e e' o is is' =
     let same : a_fault e ≡ a_fault e' = sym is ∙ is' in
     cc

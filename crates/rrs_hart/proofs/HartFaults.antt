@@ -1,5 +1,5 @@
 -- A step that raises an exception leaves each byte of memory as it was.
-use Rattle.std.proofs.Common.{◌≡◌, ℕ, ◌%◌, ◌==◌, ℤ, if◌then◌else◌, Bool, true, false, Option, Some, None, Ok, Err, refl, sym, subst, ap, ◌∙◌}
+use Rattle.std.proofs.Common.{◌≡◌, ℕ, ◌%◌, ◌==◌, ℤ, if◌then◌else◌, Bool, true, false, Option, Some, None, Err, refl, sym, subst, ap, ◌∙◌}
 use Rattle.std.proofs.lemmas.Option.{none-some, same_Some}
 use Rattle.rrs_memory.specs.Bytes.{little_endian, all_writable}
 use Rattle.rrs_instruction.specs.declared.instruction_formats.RType.{RType}
@@ -15,7 +15,7 @@ use Rattle.rrs_words.specs.declared.layers.LayerInstruction.{LayerInstruction}
 use Rattle.rrs_words.specs.declared.layers.LayerInstruction.TheVariants.{System, Atomic}
 use Rattle.rrs_hart.specs.declared.profile.HartProfile.{HartProfile}
 use Rattle.rrs_hart.specs.Anywhere.{anywhere_by}
-use Rattle.rrs_hart.specs.Atomics.{AtomicOutcome, leaves, holds, reserved, conditional, swapped, aligned_outcome, atomic_outcome}
+use Rattle.rrs_hart.specs.Atomics.{AtomicOutcome, leaves, holds, reserved, conditional, swapped, aligned_outcome}
 use Rattle.rrs_hart.specs.Harts.{Hart, layer_outcome, moved, moved_on, HartStep, OfKit, OfLayer, ByBytes, OfHalves}
 use Rattle.rrs_hart.specs.Halves.{bytes_of, RowStep, AsRow, AsBytes, HalvesStep, NotFetched, NoInstruction, ARow, ALayer}
 use Rattle.rrs_hart.proofs.HalvesEnds.{fault_sized}

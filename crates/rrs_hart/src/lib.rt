@@ -18,7 +18,9 @@ mod step;
 
 pub use atomics::execute_atomic;
 pub use bytes::{ByteAccess, access_by_bytes};
-pub use halves::Encoding;
+pub use halves::{
+    Encoding, bits_of, execute_encoding_told, fetch_encoding, layer_in, row_in,
+};
 pub use profile::{HartProfile, decode_in};
 pub use runs::run_hart;
 pub use step::{execute_word, execute_word_told, step_hart};

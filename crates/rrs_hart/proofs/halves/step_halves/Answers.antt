@@ -4,6 +4,7 @@ use Rattle.rrs_lib.specs.Steps.{cleared}
 use Rattle.rrs_lib.specs.Executor.{state_in}
 use Rattle.rrs_lib.proofs.Making.{Makes-append}
 use Rattle.rrs_hart.specs.Atomics.{leaves}
+use Rattle.rrs_hart.specs.Anywhere.{answer_of}
 use Rattle.rrs_hart.specs.Profiles.{hart_with}
 use Rattle.rrs_hart.specs.Halves.{fetch_reads, HalvesStep, NotFetched, AccessesOfHalves}
 use Rattle.rrs_hart.proofs.HalvesEnds.{exactly_halves}
@@ -19,7 +20,8 @@ returns-in-Ok-clause-step g c =
     let after : state_of h (memory.bytes read.new.mem) (memory.writable read.new.mem) ≡ s =
     (λ k. state_of h (read.ensures.bytes_kept k) (read.ensures.writable_kept k)) in
     let t = hart_with (state_in memory.bytes memory.writable c.step_encoding.new.executor) c.step_encoding.new.reservation in
-    subst (λ x. HalvesStep c.args.profile (hart_with x c.args.reservation.now) t c.step_encoding.result) after c.step_encoding.ensures.step
+    let step = subst (λ x. HalvesStep c.args.profile (hart_with x c.args.reservation.now) t (answer_of c.step_encoding.result)) after c.step_encoding.ensures.step in
+    subst (λ a. HalvesStep c.args.profile (hart_with s c.args.reservation.now) t a) (sym c.answer_of.ensures) step
 
 pub returns-in-Ok-clause-accesses : goal.returns-in-Ok-clause-accesses
 returns-in-Ok-clause-accesses g c =
