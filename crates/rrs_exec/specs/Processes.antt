@@ -20,7 +20,12 @@ use Rattle.rrs_linux.specs.declared.host_side.HostSide.{HostSide}
 
 -- All layers, as Linux has them for a process: misaligned loads and stores unless these are strict.
 abbrev pub process_profile : Bool → HartProfile
-process_profile strict = record { atomics = true; fence_i = true; misaligned = not strict }
+process_profile strict = record {
+  atomics = true;
+  fence_i = true;
+  misaligned = not strict;
+  compressed = false;
+}
 
 -- What a run of a program does: how it ends, the environment and the state then, within a limit,
 -- from an environment and a state, after so many steps, with these accesses.

@@ -55,6 +55,7 @@ pub fn process_profile(strict: bool) -> HartProfile
         atomics: true,
         fence_i: true,
         misaligned: !strict,
+        compressed: false,
     }
 }
 

@@ -55,7 +55,7 @@ one_row_stands (Short h) row row' f f' is is' =
     )
 
 -- and one instruction of a layer
-one_layer_stands : (p : HartProfile) (x : Encoding) (i j : LayerInstruction) → IsLayers p x i → IsLayers p x j → i ≡ j
+pub one_layer_stands : (p : HartProfile) (x : Encoding) (i j : LayerInstruction) → IsLayers p x i → IsLayers p x j → i ≡ j
 one_layer_stands p (Long w) i j is is' = one_layer w i j is.1 is'.1
 one_layer_stands p (Short h) i j is is' = absurd is
 

@@ -1,6 +1,6 @@
 -- What a traced memory has seen of a step of a hart, and what is told of an access by bytes.
-use Rattle.std.proofs.Common.{◌≡◌, ℕ, ◌%◌, ◌==◌, ◌≤◌, ℤ, Bool, true, false, if◌then◌else◌, List, [], ◌∷◌, Option, Some, None, Result, Ok, Err, IfOk, IfSome, refl, sym, subst, ap, ◌∙◌}
-use Rattle.std.proofs.lemmas.Bool.{eq-eqb, ne_eqb}
+use Rattle.std.proofs.Common.{◌≡◌, ℕ, ◌%◌, ◌==◌, ◌≤◌, ℤ, Bool, true, false, if◌then◌else◌, List, [], ◌∷◌, ◌++◌, Option, Some, None, Result, Ok, Err, IfOk, IfSome, refl, sym, subst, ap, ◌∙◌}
+use Rattle.std.proofs.lemmas.Bool.{eq-eqb, ne_eqb, false≢true}
 use Rattle.std.proofs.lemmas.Option.{none-some, same_Some}
 use Rattle.rrs_lib.specs.declared.MemAccessSize.{MemAccessSize}
 use Rattle.rrs_lib.specs.declared.MemAccessSize.TheVariants.{Word}
@@ -11,7 +11,7 @@ use Rattle.rrs_instruction.specs.Table.{Row, table, Action, Load, Store, Decodes
 use Rattle.rrs_lib.specs.declared.instruction_executor.InstructionException.{InstructionException}
 use Rattle.rrs_lib.specs.Machine.{State, Outcome, reg, plus_immediate, read_outcome}
 use Rattle.rrs_lib.specs.Steps.{Step, StepAnswer, Misaligned, Unmapped, Illegal, Legal, next_word, cleared, answered}
-use Rattle.rrs_lib.specs.Accesses.{Access, Read, Write, Makes, AccessesOf, OfNone, OfFetch, OfRow, fetch, read_in, write_in, read_if_aligned, write_if_aligned, size_of, accesses_by}
+use Rattle.rrs_lib.specs.Accesses.{Access, Read, Write, Makes, AccessesOf, OfNone, OfFetch, OfRow, fetch, read_in, write_in, read_if_aligned, write_if_aligned, size_of, accesses_by, accesses_of_row}
 use Rattle.rrs_instruction.proofs.Rows.{one_row_at_most}
 use Rattle.rrs_words.specs.declared.atomics.AtomicRow.{AtomicRow}
 use Rattle.rrs_words.specs.declared.atomics.AtomicRow.TheVariants.{LrW, ScW}
@@ -20,14 +20,17 @@ use Rattle.rrs_words.specs.declared.layers.LayerInstruction.TheVariants.{System,
 use Rattle.rrs_hart.specs.declared.bytes.ByteAccess.{ByteAccess}
 use Rattle.rrs_hart.specs.declared.profile.HartProfile.{HartProfile}
 use Rattle.rrs_hart.specs.Anywhere.{anywhere_by, told_load, told_anywhere}
-use Rattle.rrs_hart.specs.Atomics.{AtomicOutcome, holds, combined, swap_accesses, aligned_accesses, accesses_of_atomic}
-use Rattle.rrs_hart.specs.Harts.{Hart, layer_accesses, IsOfProfile, LayerAt, BytesAt, IsKits, HartStep, OfKit, OfLayer, ByBytes, TellsBytes, AccessesOfHart, KitAccesses, LayerAccesses, ByteAccesses}
+use Rattle.rrs_hart.specs.Atomics.{AtomicOutcome, holds, combined, swap_accesses, aligned_accesses}
+use Rattle.rrs_hart.specs.Harts.{Hart, layer_accesses, IsOfProfile, LayerAt, BytesAt, IsKits, HartStep, OfKit, OfLayer, ByBytes, TellsBytes, AccessesOfHart, KitAccesses, LayerAccesses, ByteAccesses, HalvesAccesses, OfHalves}
+use Rattle.rrs_hart.specs.declared.halves.Encoding.{Encoding}
+use Rattle.rrs_hart.specs.Halves.{fetched, fetch_reads, StandsFor, IsNoRow, IsLayers, IsIllegalIn, IsCarriedOut, IsNothing, AccessesOfRowStep, OfRow, OfBytes, AccessesOfHalves, FetchAlone, FetchAndRow, FetchAndLayer, TellsHalves}
+use Rattle.rrs_hart.proofs.HalvesSteps.{AccessesOfHalves-unique, same_Ok, not_both}
 use Rattle.rrs_hart.proofs.HartSteps.{AccessesOfHart-unique, next_stands, one_instruction, tells_none}
 use Rattle.rrs_trace.specs.declared.traced.MemoryAccess.{MemoryAccess}
 use Rattle.rrs_trace.specs.declared.traced.TracedMemory.{TracedMemory}
-use Rattle.rrs_trace.specs.Retired.{no_access, log_of, followed, after_fetch, first_source, second_source}
+use Rattle.rrs_trace.specs.Retired.{no_access, log_of, followed, later_access, after_fetch, first_source, second_source}
 use Rattle.rrs_trace.specs.Traced.{Traces, traced_reads, traced_writes}
-use Rattle.rrs_trace.specs.HartRecords.{whole_of, first_of_layer, second_of_layer, HasSourcesIn, IsWhole, HasAccess}
+use Rattle.rrs_trace.specs.HartRecords.{whole_of, first_of_layer, second_of_layer, HasSourcesIn, HasSourcesByHalves, IsWhole, IsWholeByHalves, HasAccess, bits_fetched, bits_at}
 
 -- ---- accesses of a traced memory after the fetch
 
@@ -66,6 +69,14 @@ module _ {M : Type 0} (reads : M → ℕ → MemAccessSize → M → Option ℕ 
         same_memory = rest.same_memory ∙ did.1.same_memory;
         access = rest.access ∙ ap (λ m. followed_by m xs) (latest (Write a size value answer) old mid fetched did.1);
       }
+
+-- ---- the bits of an instruction
+
+pub words_at : (p : HartProfile) (s : State) → p.compressed ≡ false → bits_at p s ≡ next_word s
+words_at p s words = ap (λ b. if b then bits_fetched (fetched s.bytes s.pc) else next_word s) words
+
+pub halves_at : (p : HartProfile) (s : State) → p.compressed ≡ true → bits_at p s ≡ bits_fetched (fetched s.bytes s.pc)
+halves_at p s halves = ap (λ b. if b then bits_fetched (fetched s.bytes s.pc) else next_word s) halves
 
 -- ---- of a row, and of an instruction of a layer
 
@@ -115,15 +126,58 @@ kit_one s xs (OfNone odd are) = absurd (cc (are))
 kit_one s xs (OfFetch aligned outside are) = behind (fetch s) xs [] refl are
 kit_one s xs (OfRow w row f aligned read is are) = behind (fetch s) xs _ (row_one (fetch s) (table row).action f s) are
 
-hart_one : (p : HartProfile) (s : Hart) (xs : List Access) → AccessesOfHart p s (fetch s.state ∷ xs) → IsWhole p s.state → AsOne (fetch s.state) xs
-hart_one p s xs (KitAccesses kits of) whole = kit_one s.state xs of
-hart_one p s xs (LayerAccesses w i at are) whole = behind (fetch s.state) xs _ (layer_one (fetch s.state) i _ s.reserved) are
-hart_one p s xs (ByteAccesses w row f a o at are) whole = absurd (whole w row f a o at)
+pub not_halves : (p : HartProfile) → p.compressed ≡ false → p.compressed ≡ true → ⊥
+not_halves p words halves = false≢true (sym words ∙ halves)
 
-pub seen_as : (p : HartProfile) (s : Hart) (xs ys : List Access) (m : MemoryAccess) → AccessesOfHart p s (fetch s.state ∷ xs)
+hart_one : (p : HartProfile) (s : Hart) (xs : List Access) → p.compressed ≡ false → AccessesOfHart p s (fetch s.state ∷ xs) → IsWhole p s.state → AsOne (fetch s.state) xs
+hart_one p s xs words (KitAccesses kits of) whole = kit_one s.state xs of
+hart_one p s xs words (LayerAccesses w i at are) whole = behind (fetch s.state) xs _ (layer_one (fetch s.state) i _ s.reserved) are
+hart_one p s xs words (ByteAccesses w row f a o at are) whole = absurd (whole w row f a o at)
+hart_one p s xs words (HalvesAccesses halves of) whole = absurd (not_halves p words halves)
+
+pub seen_as : (p : HartProfile) (s : Hart) (xs ys : List Access) (m : MemoryAccess) → p.compressed ≡ false → AccessesOfHart p s (fetch s.state ∷ xs)
     → m ≡ followed_by no_access xs → AccessesOfHart p s ys → IsWhole p s.state → m ≡ after_fetch ys
-seen_as p s xs ys m these is others whole =
-    is ∙ hart_one p s xs these whole ∙ ap after_fetch (AccessesOfHart-unique p s (fetch s.state ∷ xs) ys these others)
+seen_as p s xs ys m words these is others whole =
+    is ∙ hart_one p s xs words these whole ∙ ap after_fetch (AccessesOfHart-unique p s (fetch s.state ∷ xs) ys these others)
+
+-- ---- of a step by half-words
+
+same_rest : (xs ys zs : List Access) → xs ++ ys ≡ xs ++ zs → ys ≡ zs
+same_rest [] ys zs same = same
+same_rest (x ∷ xs) ys zs same =
+    let rest : xs ++ ys ≡ xs ++ zs = cc (same) in
+    same_rest xs ys zs rest
+
+same_alone : (xs ys : List Access) → xs ++ ys ≡ xs → ys ≡ []
+same_alone [] ys same = same
+same_alone (x ∷ xs) ys same =
+    let rest : xs ++ ys ≡ xs = cc (same) in
+    same_alone xs ys rest
+
+row_whole : (p : HartProfile) (row : Row) (f : Fields) (s : State) (xs : List Access) → AccessesOfRowStep p row f s xs
+    → ((a : ℕ) (o : Outcome) → ¬ IsCarriedOut p row f s a o) → xs ≡ accesses_of_row row f s
+row_whole p row f s xs (OfRow none are) whole = are
+row_whole p row f s xs (OfBytes a o is are) whole = absurd (whole a o is)
+
+halves_one : (p : HartProfile) (s : Hart) (xs ys : List Access) → AccessesOfHalves p s ys → ys ≡ fetch_reads s.state.bytes s.state.pc ++ xs
+    → IsWholeByHalves p s.state → AsOne (fetch s.state) xs
+halves_one p s xs ys (FetchAlone nothing are) same whole =
+    subst (AsOne (fetch s.state)) (sym (same_alone (fetch_reads s.state.bytes s.state.pc) xs (sym same ∙ are))) refl
+halves_one p s xs ys (FetchAndRow x row f later is stands of are) same whole =
+    let rest = same_rest (fetch_reads s.state.bytes s.state.pc) xs later (sym same ∙ are) in
+    let alone = row_whole p row f (cleared s.state) later of (whole x row f is stands) in
+    subst (AsOne (fetch s.state)) (sym (rest ∙ alone)) (row_one (fetch s.state) (table row).action f (cleared s.state))
+halves_one p s xs ys (FetchAndLayer x i is none layers are) same whole =
+    let rest = same_rest (fetch_reads s.state.bytes s.state.pc) xs _ (sym same ∙ are) in
+    subst (AsOne (fetch s.state)) (sym rest) (layer_one (fetch s.state) i (cleared s.state) s.reserved)
+
+pub seen_in_halves : (p : HartProfile) (s : Hart) (xs later : List Access) (m : MemoryAccess)
+    → AccessesOfHalves p s (fetch_reads s.state.bytes s.state.pc ++ xs) → m ≡ followed_by no_access xs
+    → AccessesOfHalves p s (fetch_reads s.state.bytes s.state.pc ++ later) → IsWholeByHalves p s.state → m ≡ later_access later
+seen_in_halves p s xs later m these is others whole =
+    let reads = fetch_reads s.state.bytes s.state.pc in
+    is ∙ halves_one p s xs _ these refl whole
+    ∙ ap later_access (same_rest reads xs later (AccessesOfHalves-unique p s (reads ++ xs) (reads ++ later) these others))
 
 -- ---- the access of a step
 
@@ -131,23 +185,66 @@ whole_layer : (p : HartProfile) (s : State) (w : ℕ) (i : LayerInstruction) →
 whole_layer p s w i at = λ w' row f a o bytes.
     at.outside row f (subst (λ x. Decodes x row f) (same_Some _ _ (sym bytes.fetched ∙ at.fetched)) bytes.decoded)
 
-pub access_seen : (p : HartProfile) (s : Hart) (m : MemoryAccess) (told : Option ByteAccess) → told ≡ None → TellsBytes p s.state told
+pub access_seen : (p : HartProfile) (s : Hart) (m : MemoryAccess) (told : Option ByteAccess) → p.compressed ≡ false → told ≡ None → TellsBytes p s.state told
     → ((ys : List Access) → AccessesOfHart p s ys → IsWhole p s.state → m ≡ after_fetch ys) → HasAccess p s (Ok tt) m
-access_seen p s m told none tells seen = record {
+access_seen p s m told words none tells seen = record {
   of_fault = tt;
   of_kit = λ ys ok kits of. seen ys (KitAccesses kits of) kits.no_bytes;
   of_layer = λ w i ok at. seen _ (LayerAccesses w i at refl) (whole_layer p s.state w i at);
   by_bytes = λ w row f a o ok at. let b = tells.by_bytes w row f a o at in absurd (none-some b.0 (sym none ∙ b.1));
+  of_halves = λ later ok halves whole of. absurd (not_halves p words halves);
+  halves_by_bytes = λ x row f a o ok halves is stands at. absurd (not_halves p words halves);
 }
 
-pub access_told : (p : HartProfile) (s : Hart) (m : MemoryAccess) (told : Option ByteAccess) (x : ByteAccess) → told ≡ Some x
+pub access_told : (p : HartProfile) (s : Hart) (m : MemoryAccess) (told : Option ByteAccess) (x : ByteAccess) → p.compressed ≡ false → told ≡ Some x
     → TellsBytes p s.state told → m ≡ whole_of x → HasAccess p s (Ok tt) m
-access_told p s m told x some tells is = record {
+access_told p s m told x words some tells is = record {
   of_fault = tt;
   of_kit = λ ys ok kits of. absurd (none-some x (sym (tells.of_others kits.no_bytes) ∙ some));
   of_layer = λ w i ok at. absurd (none-some x (sym (tells.of_others (whole_layer p s.state w i at)) ∙ some));
   by_bytes = λ w row f a o ok at.
       let b = tells.by_bytes w row f a o at in
+      (b.0, b.2, is ∙ ap whole_of (same_Some _ _ (sym some ∙ b.1)));
+  of_halves = λ later ok halves whole of. absurd (not_halves p words halves);
+  halves_by_bytes = λ y row f a o ok halves there stands at. absurd (not_halves p words halves);
+}
+
+-- by half-words
+pub halves_seen : (p : HartProfile) (s : Hart) (m : MemoryAccess) (told : Option ByteAccess) → p.compressed ≡ true → told ≡ None → TellsHalves p s.state told
+    → ((later : List Access) → AccessesOfHalves p s (fetch_reads s.state.bytes s.state.pc ++ later) → IsWholeByHalves p s.state → m ≡ later_access later)
+    → HasAccess p s (Ok tt) m
+halves_seen p s m told halves none tells seen = record {
+  of_fault = tt;
+  of_kit = λ ys ok kits of. absurd (not_halves p kits.words halves);
+  of_layer = λ w i ok at. absurd (not_halves p at.words halves);
+  by_bytes = λ w row f a o ok at. absurd (not_halves p at.words halves);
+  of_halves = λ later ok _ whole of. seen later of whole;
+  halves_by_bytes = λ x row f a o ok _ is stands at.
+      let b = (tells.of_row x row f is stands).by_bytes a o at in
+      absurd (none-some b.0 (sym none ∙ b.1));
+}
+
+-- what is told is of a row that is carried out by bytes
+told_not_whole : (p : HartProfile) (s : Hart) (told : Option ByteAccess) (y : ByteAccess) (xs : List Access) → told ≡ Some y → TellsHalves p s.state told
+    → (x : Encoding) → fetched s.state.bytes s.state.pc ≡ Ok x → AccessesOfHalves p s xs → IsWholeByHalves p s.state → ⊥
+told_not_whole p s told y xs some tells x there (FetchAlone nothing are) whole =
+    let illegal = subst (IsNothing p) there nothing in
+    none-some y (sym (tells.of_others x there illegal.no_row) ∙ some)
+told_not_whole p s told y xs some tells x there (FetchAndRow x' row f later is stands of are) whole =
+    none-some y (sym ((tells.of_row x' row f is stands).of_others (whole x' row f is stands)) ∙ some)
+told_not_whole p s told y xs some tells x there (FetchAndLayer x' i is none layers are) whole =
+    none-some y (sym (tells.of_others x' is none) ∙ some)
+
+pub halves_told : (p : HartProfile) (s : Hart) (m : MemoryAccess) (told : Option ByteAccess) (y : ByteAccess) (x : Encoding) → p.compressed ≡ true
+    → fetched s.state.bytes s.state.pc ≡ Ok x → told ≡ Some y → TellsHalves p s.state told → m ≡ whole_of y → HasAccess p s (Ok tt) m
+halves_told p s m told y x halves there some tells is = record {
+  of_fault = tt;
+  of_kit = λ ys ok kits of. absurd (not_halves p kits.words halves);
+  of_layer = λ w i ok at. absurd (not_halves p at.words halves);
+  by_bytes = λ w row f a o ok at. absurd (not_halves p at.words halves);
+  of_halves = λ later ok _ whole of. absurd (told_not_whole p s told y _ some tells x there of whole);
+  halves_by_bytes = λ x' row f a o ok _ at stands carried.
+      let b = (tells.of_row x' row f at stands).by_bytes a o carried in
       (b.0, b.2, is ∙ ap whole_of (same_Some _ _ (sym some ∙ b.1)));
 }
 
@@ -157,12 +254,19 @@ access_fault p s e m is = record {
   of_kit = λ ys ok kits of. absurd (cc (ok));
   of_layer = λ w i ok at. absurd (cc (ok));
   by_bytes = λ w row f a o ok at. absurd (cc (ok));
+  of_halves = λ later ok halves whole of. absurd (cc (ok));
+  halves_by_bytes = λ x row f a o ok halves there stands at. absurd (cc (ok));
 }
 
 pub within_told : (p : HartProfile) (s : State) (told : Result (Option ByteAccess) InstructionException) → IfOk told (TellsBytes p s)
     → IfOk told (λ x. IfSome x (λ y. y.size ≤ 4))
 within_told p s (Err e) tells = tt
 within_told p s (Ok told) tells = tells.within
+
+pub within_halves : (p : HartProfile) (s : State) (told : Result (Option ByteAccess) InstructionException) → IfOk told (TellsHalves p s)
+    → IfOk told (λ x. IfSome x (λ y. y.size ≤ 4))
+within_halves p s (Err e) tells = tt
+within_halves p s (Ok told) tells = tells.within
 
 -- ---- the source registers
 
@@ -188,6 +292,29 @@ sources_fetched p word w rs1 rs2 is of_row of_layer of_illegal = record {
       let one = same_Some _ _ (sym same ∙ is) in
       of_illegal (subst IsIllegal one outside) (λ i of. other i (subst (λ v. IsOfProfile p v i) (sym one) of));
   of_none = λ none. absurd (none-some w (sym none ∙ is));
+}
+
+-- of an encoding
+pub sources_not_fetched : (p : HartProfile) (o : Result Encoding InstructionException) (e : InstructionException) → o ≡ Err e → HasSourcesByHalves p o 0 0
+sources_not_fetched p o e none = record {
+  of_row = λ x row f is stands. absurd (not_both x e o is none);
+  of_layer = λ x i is outside of. absurd (not_both x e o is none);
+  of_illegal = λ x is illegal. (refl, refl);
+  of_none = λ e' is. (refl, refl);
+}
+
+pub sources_by_halves : (p : HartProfile) (o : Result Encoding InstructionException) (x : Encoding) (rs1 rs2 : ℕ) → o ≡ Ok x
+    → ((row : Row) (f : Fields) → StandsFor x row f → (rs1 ≡ first_source f) × (rs2 ≡ second_source f))
+    → ((i : LayerInstruction) → IsNoRow x → IsLayers p x i → (rs1 ≡ first_of_layer i) × (rs2 ≡ second_of_layer i))
+    → (IsIllegalIn p x → (rs1 ≡ 0) × (rs2 ≡ 0))
+    → HasSourcesByHalves p o rs1 rs2
+sources_by_halves p o x rs1 rs2 is of_row of_layer of_illegal = record {
+  of_row = λ y row f there stands. of_row row f (subst (λ v. StandsFor v row f) (same_Ok y x o there is) stands);
+  of_layer = λ y i there outside of.
+      let one = same_Ok y x o there is in
+      of_layer i (subst IsNoRow one outside) (subst (λ v. IsLayers p v i) one of);
+  of_illegal = λ y there illegal. of_illegal (subst (IsIllegalIn p) (same_Ok y x o there is) illegal);
+  of_none = λ e none. absurd (not_both x e o is none);
 }
 
 -- those of the word of a step
@@ -233,14 +360,15 @@ sources_kit p s t answer kits (Unmapped even none same answers) =
     record { rs1 = 0; rs2 = 0; these = sources_unfetched p (next_word s) (ap (λ b. if b then little_endian s.bytes s.pc 4 else None) (eq-eqb (s.pc % 4) 0 even) ∙ none) }
 sources_kit p s t answer kits (Illegal w even read outside same answers) =
     let next = next_stands s w even read in
-    sources_illegal p (next_word s) w next outside (λ i of. kits.no_layer w i (record { fetched = next; outside = outside; is = of }))
+    sources_illegal p (next_word s) w next outside (λ i of. kits.no_layer w i (record { words = kits.words; fetched = next; outside = outside; is = of }))
 sources_kit p s t answer kits (Legal w row f u a even read decodes executes after answers) =
     sources_row p (next_word s) w row f (next_stands s w even read) decodes
 
-pub sources_at : (p : HartProfile) (s t : Hart) (answer : StepAnswer) → HartStep p s t answer → Sources p (next_word s.state)
-sources_at p s t answer (OfKit kits step kept) = sources_kit p s.state t.state answer kits step
-sources_at p s t answer (OfLayer w i at left) = sources_layer p (next_word s.state) w i at.fetched at.outside at.is
-sources_at p s t answer (ByBytes w row f a o at left) = sources_row p (next_word s.state) w row f at.fetched at.decoded
+pub sources_at : (p : HartProfile) (s t : Hart) (answer : StepAnswer) → p.compressed ≡ false → HartStep p s t answer → Sources p (next_word s.state)
+sources_at p s t answer words (OfKit kits step kept) = sources_kit p s.state t.state answer kits step
+sources_at p s t answer words (OfLayer w i at left) = sources_layer p (next_word s.state) w i at.fetched at.outside at.is
+sources_at p s t answer words (ByBytes w row f a o at left) = sources_row p (next_word s.state) w row f at.fetched at.decoded
+sources_at p s t answer words (OfHalves halves step) = absurd (not_halves p words halves)
 
 -- ---- the access of a step of which nothing was told
 
@@ -261,11 +389,11 @@ pub record Told (p : HartProfile) (s : Hart) (answer : StepAnswer) : Type 0 wher
   pub access : MemoryAccess
   pub told : HasAccess p s answer access
 
-told_whole : (p : HartProfile) (s : Hart) (xs : List Access) → ((others : List Access) → AccessesOfHart p s others → others ≡ xs)
+told_whole : (p : HartProfile) (s : Hart) (xs : List Access) → p.compressed ≡ false → ((others : List Access) → AccessesOfHart p s others → others ≡ xs)
     → IsWhole p s.state → Told p s (Ok tt)
-told_whole p s xs only whole = record {
+told_whole p s xs words only whole = record {
   access = after_fetch xs;
-  told = access_seen p s (after_fetch xs) None refl (tells_none p s.state None whole refl) (λ ys of _. ap after_fetch (sym (only ys of)));
+  told = access_seen p s (after_fetch xs) None words refl (tells_none p s.state None whole refl) (λ ys of _. ap after_fetch (sym (only ys of)));
 }
 
 told_bytes : (p : HartProfile) (s : Hart) (w : ℕ) (row : Row) (f : Fields) (a : ℕ) (o : Outcome) → BytesAt p s.state w row f a o
@@ -280,14 +408,17 @@ told_bytes p s w row f a o at x is = record {
         let words : w' ≡ w = same_Some _ _ (sym at'.fetched ∙ at.fetched) in
         let same = one_row_at_most w row row' f f' at.decoded (subst (λ y. Decodes y row' f') words at'.decoded) in
         (x, (λ k. told_anywhere (table (sym same.0 k)).action (sym same.1 k) (cleared s.state)) ∙ is, refl);
+    of_halves = λ later ok halves whole of. absurd (not_halves p at.words halves);
+    halves_by_bytes = λ y row' f' a' o' ok halves there stands carried. absurd (not_halves p at.words halves);
   };
 }
 
-pub told_of : (p : HartProfile) (s t : Hart) (answer : StepAnswer) (xs : List Access) → HartStep p s t answer
+pub told_of : (p : HartProfile) (s t : Hart) (answer : StepAnswer) (xs : List Access) → p.compressed ≡ false → HartStep p s t answer
     → ((others : List Access) → AccessesOfHart p s others → others ≡ xs) → Told p s answer
-told_of p s t (Err e) xs step only = record { access = no_access; told = access_fault p s e no_access refl }
-told_of p s t (Ok v) xs (OfKit kits step kept) only = told_whole p s xs only kits.no_bytes
-told_of p s t (Ok v) xs (OfLayer w i at left) only = told_whole p s xs only (whole_layer p s.state w i at)
-told_of p s t (Ok v) xs (ByBytes w row f a o at left) only =
+told_of p s t (Err e) xs words step only = record { access = no_access; told = access_fault p s e no_access refl }
+told_of p s t (Ok v) xs words (OfKit kits step kept) only = told_whole p s xs words only kits.no_bytes
+told_of p s t (Ok v) xs words (OfLayer w i at left) only = told_whole p s xs words only (whole_layer p s.state w i at)
+told_of p s t (Ok v) xs words (ByBytes w row f a o at left) only =
     let found = told_ok (table row).action f (cleared s.state) o at.carried (ap (λ (y : AtomicOutcome). y.answer) left) in
     told_bytes p s w row f a o at found.0 found.1
+told_of p s t (Ok v) xs words (OfHalves halves step) only = absurd (not_halves p words halves)

@@ -1,9 +1,12 @@
--- What a step of a hart with a profile retires, in the shape of RVFI, the RISC-V Formal Interface. An
--- instruction of a layer has the registers of its word and the accesses that it makes. A load or a
--- store at any address is one access of all its bytes, as it is in the commit log of Spike.
-use Rattle.std.specs.Prelude.{◌≡◌, ℕ, ◌-◌, ◌^◌, if◌then◌else◌, ◌∷◌, List, true, Option, Some, None, Ok, IfErr}
+-- What a step of a hart with a profile retires, in the shape of RVFI, the RISC-V Formal Interface.
+-- An instruction of a layer has the registers of its word and the accesses that it makes. A load or
+-- a store at any address is one access of all its bytes, as it is in the commit log of Spike. Of a
+-- hart that has the compressed instructions an instruction is its 16 bits, or its 32, and one of 16
+-- has the registers of the row that it stands for.
+use Rattle.std.specs.Prelude.{◌≡◌, ℕ, ◌-◌, ◌^◌, if◌then◌else◌, ◌∷◌, ◌++◌, List, true, false, Option, Some, None, Result, Ok, Err, IfErr}
 use Rattle.rrs_instruction.specs.Encodings.{Fields}
 use Rattle.rrs_instruction.specs.Table.{Row, table, Decodes, IsIllegal}
+use Rattle.rrs_lib.specs.declared.instruction_executor.InstructionException.{InstructionException}
 use Rattle.rrs_lib.specs.Machine.{State, Outcome, reg}
 use Rattle.rrs_lib.specs.Steps.{StepAnswer, next_word, cleared}
 use Rattle.rrs_lib.specs.Accesses.{Access, AccessesOf, fetch}
@@ -11,11 +14,13 @@ use Rattle.rrs_words.specs.declared.layers.LayerInstruction.{LayerInstruction}
 use Rattle.rrs_words.specs.declared.layers.LayerInstruction.TheVariants.{System, Atomic}
 use Rattle.rrs_hart.specs.declared.bytes.ByteAccess.{ByteAccess}
 use Rattle.rrs_hart.specs.declared.profile.HartProfile.{HartProfile}
+use Rattle.rrs_hart.specs.declared.halves.Encoding.{Encoding}
 use Rattle.rrs_hart.specs.Anywhere.{told_anywhere}
 use Rattle.rrs_hart.specs.Harts.{Hart, layer_accesses, IsOfProfile, LayerAt, BytesAt, IsKits}
+use Rattle.rrs_hart.specs.Halves.{bits_of, fetched, fetch_reads, StandsFor, IsNoRow, IsLayers, IsIllegalIn, IsCarriedOut, IsNotCarriedOut, AccessesOfHalves}
 use Rattle.rrs_trace.specs.declared.traced.MemoryAccess.{MemoryAccess}
 use Rattle.rrs_trace.specs.declared.retired.Retired.{Retired}
-use Rattle.rrs_trace.specs.Retired.{no_access, after_fetch, first_source, second_source, last_of, is_fault}
+use Rattle.rrs_trace.specs.Retired.{no_access, later_access, after_fetch, first_source, second_source, last_of, is_fault}
 
 -- ---- the access
 
@@ -46,6 +51,11 @@ whole_of x =
 abbrev pub IsWhole : HartProfile → State → Type 0
 IsWhole p s = (w : ℕ) (row : Row) (f : Fields) (a : ℕ) (o : Outcome) → ¬ BytesAt p s w row f a o
 
+-- and so in a hart that fetches half-words
+abbrev pub IsWholeByHalves : HartProfile → State → Type 0
+IsWholeByHalves p s = (x : Encoding) (row : Row) (f : Fields)
+    → fetched s.bytes s.pc ≡ Ok x → StandsFor x row f → IsNotCarriedOut p row f (cleared s)
+
 -- The load or the store of a step from s: none of a step that raises an exception.
 pub record HasAccess (p : HartProfile) (s : Hart) (answer : StepAnswer) (mem : MemoryAccess)
     : Type 0 where
@@ -58,6 +68,17 @@ pub record HasAccess (p : HartProfile) (s : Hart) (answer : StepAnswer) (mem : M
       → BytesAt p s.state w row f a o
       → (x : ByteAccess) × (told_anywhere (table row).action f (cleared s.state) ≡ Some x)
       × (mem ≡ whole_of x)
+  -- in a hart that fetches half-words
+  pub of_halves : (later : List Access) → answer ≡ Ok tt → p.compressed ≡ true
+      → IsWholeByHalves p s.state
+      → AccessesOfHalves p s (fetch_reads s.state.bytes s.state.pc ++ later)
+      → mem ≡ later_access later
+  pub halves_by_bytes : (x : Encoding) (row : Row) (f : Fields) (a : ℕ) (o : Outcome)
+      → answer ≡ Ok tt → p.compressed ≡ true
+      → fetched s.state.bytes s.state.pc ≡ Ok x → StandsFor x row f
+      → IsCarriedOut p row f (cleared s.state) a o
+      → (y : ByteAccess) × (told_anywhere (table row).action f (cleared s.state) ≡ Some y)
+      × (mem ≡ whole_of y)
 
 -- ---- the registers
 
@@ -80,24 +101,49 @@ pub record HasSourcesIn (p : HartProfile) (word : Option ℕ) (rs1 rs2 : ℕ) : 
       → ((i : LayerInstruction) → ¬ IsOfProfile p w i) → (rs1 ≡ 0) × (rs2 ≡ 0)
   pub of_none : word ≡ None → (rs1 ≡ 0) × (rs2 ≡ 0)
 
+-- those of the row that an encoding is or stands for, or of the instruction of a layer that it is
+pub record HasSourcesByHalves (p : HartProfile) (encoding : Result Encoding InstructionException)
+    (rs1 rs2 : ℕ) : Type 0 where
+  pub of_row : (x : Encoding) (row : Row) (f : Fields) → encoding ≡ Ok x → StandsFor x row f
+      → (rs1 ≡ first_source f) × (rs2 ≡ second_source f)
+  pub of_layer : (x : Encoding) (i : LayerInstruction)
+      → encoding ≡ Ok x → IsNoRow x → IsLayers p x i
+      → (rs1 ≡ first_of_layer i) × (rs2 ≡ second_of_layer i)
+  pub of_illegal : (x : Encoding) → encoding ≡ Ok x → IsIllegalIn p x → (rs1 ≡ 0) × (rs2 ≡ 0)
+  pub of_none : (e : InstructionException) → encoding ≡ Err e → (rs1 ≡ 0) × (rs2 ≡ 0)
+
+-- ---- the instruction
+
+-- the bits of the encoding that was fetched
+abbrev pub bits_fetched : Result Encoding InstructionException → Option ℕ
+bits_fetched (Ok x) = Some (bits_of x)
+bits_fetched (Err e) = None
+
+-- the bits of the instruction at the program counter: of a hart that fetches words the next word
+abbrev pub bits_at : HartProfile → State → Option ℕ
+bits_at p s = if p.compressed then bits_fetched (fetched s.bytes s.pc) else next_word s
+
 -- ---- the step
 
 -- what a step of the hart from s to t with this answer retires
 pub record HartRetires (p : HartProfile) (order : ℕ) (s t : Hart) (answer : StepAnswer)
     (r : Retired) : Type 0 where
   pub order_is : r.order ≡ order
-  pub insn_is : r.insn ≡ next_word s.state
+  pub insn_is : r.insn ≡ bits_at p s.state
   pub trap_is : r.trap ≡ is_fault answer
   pub pc_before : r.pc_rdata ≡ s.state.pc
   pub pc_after : r.pc_wdata ≡ t.state.pc
-  pub sources : HasSourcesIn p (next_word s.state) r.rs1_addr r.rs2_addr
+  pub sources : p.compressed ≡ false
+      → HasSourcesIn p (next_word s.state) r.rs1_addr r.rs2_addr
+  pub halves_sources : p.compressed ≡ true
+      → HasSourcesByHalves p (fetched s.state.bytes s.state.pc) r.rs1_addr r.rs2_addr
   pub first_value : r.rs1_rdata ≡ reg s.state r.rs1_addr
   pub second_value : r.rs2_rdata ≡ reg s.state r.rs2_addr
   pub written : t.state.last ≡ last_of r.rd_addr
   pub written_value : r.rd_wdata ≡ reg t.state r.rd_addr
   pub access : HasAccess p s answer r.mem
 
--- what a step retires that fetches no word
+-- what a step retires that fetches no instruction
 abbrev pub unfetched : ℕ → ℕ → Retired
 unfetched order pc = record {
   order = order;

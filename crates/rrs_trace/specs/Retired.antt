@@ -38,12 +38,17 @@ followed before (Write a size v true) =
     record (log_of (Write a size v true)) { rmask = before.rmask; rdata = before.rdata }
 followed before access = log_of access
 
--- Of the accesses of a step those that are no fetch: one in a step of the kit, and a read and then a
--- write in an AMO.
+-- Of the accesses of a step those that are no fetch: one in a step of the kit, and a read and then
+-- a write in an AMO.
+abbrev pub later_access : List Access → MemoryAccess
+later_access (access ∷ []) = log_of access
+later_access (first ∷ second ∷ []) = followed (log_of first) second
+later_access _ = no_access
+
+-- where the first access is the fetch
 abbrev pub after_fetch : List Access → MemoryAccess
-after_fetch (fetched ∷ access ∷ []) = log_of access
-after_fetch (fetched ∷ first ∷ second ∷ []) = followed (log_of first) second
-after_fetch _ = no_access
+after_fetch [] = no_access
+after_fetch (fetched ∷ later) = later_access later
 
 -- ---- the registers
 

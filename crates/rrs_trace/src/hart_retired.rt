@@ -1,6 +1,6 @@
 //! What a step of a hart with a profile retires, in the shape of RVFI.
 
-ghost use Rattle.std.specs.Prelude.{◌≡◌, ◌<◌, ◌≤◌, ◌%◌, ◌∷◌, ℕ, false, List, Some, IfOk, IfSome, slice_index};
+ghost use Rattle.std.specs.Prelude.{◌≡◌, ◌<◌, ◌≤◌, ◌%◌, ◌∷◌, ◌++◌, ℕ, true, false, List, Some, Ok, IfOk, IfSome, slice_index};
 ghost use Rattle.rrs_instruction.specs.Encodings.{Fields};
 ghost use Rattle.rrs_instruction.specs.Table.{Row, Decodes, IsIllegal};
 ghost use Rattle.rrs_lib.specs.Bytes.{little_endian, EndsAtLastAddress};
@@ -9,12 +9,15 @@ ghost use Rattle.rrs_lib.specs.Executor.{state_in, KeepsTheRest};
 ghost use Rattle.rrs_lib.specs.Accesses.{Access, Makes, MakesExactly, fetch};
 ghost use Rattle.rrs_words.specs.declared.layers.LayerInstruction.{LayerInstruction as Layer};
 ghost use Rattle.rrs_hart.specs.declared.profile.HartProfile.{HartProfile as Profile};
+ghost use Rattle.rrs_hart.specs.declared.halves.Encoding.{Encoding};
 ghost use Rattle.rrs_hart.specs.Anywhere.{answer_of};
 ghost use Rattle.rrs_hart.specs.Harts.{Hart, hart_with, IsOfProfile, HartStep, IsOnlyHartStep, TellsBytes, AccessesOfHart};
-ghost use Rattle.rrs_trace.specs.Retired.{no_access, after_fetch, first_source, second_source, HasRegisterNumbers};
+ghost use Rattle.rrs_hart.specs.Halves.{fetched, fetch_reads, AccessesOfHalves, TellsHalves};
+ghost use Rattle.rrs_trace.specs.Retired.{no_access, later_access, after_fetch, first_source, second_source, HasRegisterNumbers};
 ghost use Rattle.rrs_trace.specs.Traced.{traced_state};
-ghost use Rattle.rrs_trace.specs.HartRecords.{byte_mask, whole_of, first_of_layer, second_of_layer, IsWhole, HasAccess, HartRetires, unfetched};
+ghost use Rattle.rrs_trace.specs.HartRecords.{byte_mask, whole_of, first_of_layer, second_of_layer, IsWhole, IsWholeByHalves, HasAccess, HartRetires, unfetched};
 
+use crate::halves_retired::retire_halves;
 use crate::registers::{last_register, register_value, source_registers};
 use crate::retired::Retired;
 use crate::traced::{MemoryAccess, TracedMemory};
@@ -64,7 +67,7 @@ fn whole(access: &ByteAccess) -> MemoryAccess
 }
 
 /// The source registers of an instruction of a layer, or 0.
-fn sources_of_layer(instruction: &LayerInstruction) -> (usize, usize)
+pub(crate) fn sources_of_layer(instruction: &LayerInstruction) -> (usize, usize)
     ensures first { result.0 ≡ first_of_layer instruction.now }
     ensures second { result.1 ≡ second_of_layer instruction.now }
 {
@@ -94,15 +97,22 @@ fn sources_of(profile: HartProfile, word: u32) -> (usize, usize)
 }
 
 /// The answer of a step, and its load or its store: what is told of one by bytes, else what was seen.
-fn access_of(
+pub(crate) fn access_of(
     told: Result<Option<ByteAccess>, InstructionException>,
     seen: MemoryAccess,
 ) -> (Result<(), InstructionException>, MemoryAccess)
     requires { IfOk told (λ x. IfSome x (λ y. y.size ≤ 4)) }
     ensures answer { result.0 ≡ answer_of told }
-    ensures access { (p : Profile) (s : Hart) → IfOk told (TellsBytes p s.state)
+    ensures access { (p : Profile) (s : Hart) → p.compressed ≡ false
+        → IfOk told (TellsBytes p s.state)
         → ((accesses : List Access) → AccessesOfHart p s accesses → IsWhole p s.state
         → seen ≡ after_fetch accesses)
+        → HasAccess p s result.0 result.1 }
+    ensures halves_access { (p : Profile) (s : Hart) (x : Encoding) → p.compressed ≡ true
+        → fetched s.state.bytes s.state.pc ≡ Ok x → IfOk told (TellsHalves p s.state)
+        → ((later : List Access) → AccessesOfHalves p s
+        (fetch_reads s.state.bytes s.state.pc ++ later) → IsWholeByHalves p s.state
+        → seen ≡ later_access later)
         → HasAccess p s result.0 result.1 }
 {
     match told {
@@ -123,6 +133,7 @@ fn execute_traced<'b, M: Memory>(
     profile: HartProfile,
     word: u32,
 ) -> Result<Option<ByteAccess>, InstructionException>
+    requires whole { profile.compressed ≡ false }
     requires fetched { traced.old.is_fetch ≡ false }
     requires no_access { traced.old.access ≡ no_access }
     requires ends { EndsAtLastAddress (M.bytes traced.old.memory.now)
@@ -158,6 +169,7 @@ fn execute_seen<M: Memory>(
     profile: HartProfile,
     word: u32,
 ) -> (Result<(), InstructionException>, MemoryAccess)
+    requires whole { profile.compressed ≡ false }
     requires ends { EndsAtLastAddress (M.bytes mem.old) (M.writable mem.old) }
     requires aligned { hart.old.pc % 4 ≡ 0 }
     requires word { little_endian (M.bytes mem.old) hart.old.pc 4 ≡ Some word }
@@ -185,8 +197,8 @@ fn execute_seen<M: Memory>(
     access_of(told, traced.access)
 }
 
-/// What a step retires that fetches no word.
-fn unfetched(order: u64, pc: u32) -> Retired
+/// What a step retires that fetches no instruction.
+pub(crate) fn unfetched(order: u64, pc: u32) -> Retired
     ensures { result ≡ unfetched order pc }
 {
     Retired {
@@ -205,7 +217,7 @@ fn unfetched(order: u64, pc: u32) -> Retired
     }
 }
 
-/// Makes a step, and tells what it retired.
+/// Makes a step of a hart that fetches words, and tells what it retired.
 fn retire_parts<M: Memory>(
     mem: &mut M,
     hart: &mut HartState,
@@ -213,6 +225,7 @@ fn retire_parts<M: Memory>(
     profile: HartProfile,
     order: u64,
 ) -> (Result<(), InstructionException>, Retired)
+    requires whole { profile.compressed ≡ false }
     ensures step { HartStep profile
         (hart_with (state_of hart.old (M.bytes mem.old) (M.writable mem.old)) reservation.old)
         (hart_with (state_of hart.new (M.bytes mem.new) (M.writable mem.new)) reservation.new)
@@ -289,5 +302,11 @@ pub fn step_hart_retired<M: Memory>(
         (hart_with (state_in M.bytes M.writable executor.old) reservation.old))
         executor.old.mem.now executor.new.mem.now }
 {
-    retire_parts(executor.mem, executor.hart_state, reservation, profile, order)
+    let mem = &mut *executor.mem;
+    let hart = &mut *executor.hart_state;
+    if profile.compressed {
+        retire_halves(mem, hart, reservation, profile, order)
+    } else {
+        retire_parts(mem, hart, reservation, profile, order)
+    }
 }

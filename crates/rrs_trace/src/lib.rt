@@ -17,6 +17,7 @@
 
 #![tactic(auto)]
 
+mod halves_retired;
 mod hart_retired;
 mod outside;
 mod registers;

@@ -25,7 +25,8 @@ use rrs_lib::instruction_executor::{
 pub struct Retired {
     /// The number of the step, which the caller gave.
     pub order: u64,
-    /// The word at the pc, or `None` where none was fetched.
+    /// The word at the pc, or the 16 bits of a compressed instruction, or `None` where none was
+    /// fetched.
     pub insn: Option<u32>,
     /// Whether the step ended with an exception.
     pub trap: bool,

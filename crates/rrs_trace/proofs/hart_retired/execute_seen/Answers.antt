@@ -2,7 +2,6 @@
 use Rattle.std.proofs.Common.{rules, sym, subst}
 use Rattle.rrs_lib.specs.Machine.{state_of}
 use Rattle.rrs_lib.proofs.Engines.{moved}
-use Rattle.rrs_hart.specs.Anywhere.{answer_of}
 use Rattle.rrs_hart.specs.Harts.{hart_with, HartStep}
 use Rattle.rrs_trace.proofs.HartAccesses.{within_told}
 use Rattle.rrs_trace.proofs.hart_retired.execute_seen.Goals as goal
@@ -24,4 +23,4 @@ pub returns-clause-access : goal.returns-clause-access
 returns-clause-access g c =
     let memory = g.M.Memory in
     let s = hart_with (state_of c.args.hart.now (memory.bytes c.args.mem.now) (memory.writable c.args.mem.now)) c.args.reservation.now in
-    c.access_of.ensures.access c.args.profile s c.execute_traced-told.ensures.told c.execute_traced-told.ensures.seen
+    c.access_of.ensures.access c.args.profile s c.requires.whole c.execute_traced-told.ensures.told c.execute_traced-told.ensures.seen

@@ -15,7 +15,7 @@ returns-clause-seen g c = λ accesses others whole.
     let memory = g.M.Memory in
     let made = c.execute_word_told.ensures.makes in
     let s = hart_with (traced_state memory.bytes memory.writable c.args.hart.now c.args.traced.now) c.args.reservation.now in
-    seen_as c.args.profile s made.0 accesses _ made.1
+    seen_as c.args.profile s made.0 accesses _ c.requires.whole made.1
     ((followed_made memory.reads memory.writes made.0 _ _ c.requires.fetched made.2).access
     ∙ ap (λ m. followed_by m made.0) c.requires.no_access) others whole
 

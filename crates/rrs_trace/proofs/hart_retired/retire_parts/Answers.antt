@@ -1,16 +1,14 @@
 -- The fetch, and then the word is executed: what is told of it is put together with the registers.
-use Rattle.std.proofs.Common.{◌≡◌, ◌∷◌, Some, None, Err, refl, sym, subst, ap, ◌∙◌, rules}
-use Rattle.std.proofs.lemmas.Option.{none-some, same_Some}
+use Rattle.std.proofs.Common.{◌≡◌, ◌∷◌, None, Err, refl, sym, subst, ◌∙◌, rules}
 use Rattle.rrs_lib.specs.declared.MemAccessSize.TheVariants.{Word}
-use Rattle.rrs_instruction.specs.Table.{Decodes, IsIllegal}
 use Rattle.rrs_lib.specs.Machine.{state_of}
 use Rattle.rrs_lib.specs.Steps.{cleared}
 use Rattle.rrs_lib.specs.Accesses.{fetch, read_if_aligned}
-use Rattle.rrs_hart.specs.Harts.{hart_with, HartStep, AccessesOfHart, IsOfProfile, OfKit, KitAccesses}
+use Rattle.rrs_hart.specs.Harts.{hart_with, HartStep, AccessesOfHart, OfKit, KitAccesses}
 use Rattle.rrs_hart.proofs.HartLast.{HartStep-last}
 use Rattle.rrs_hart.proofs.HartSteps.{next_stands, kits_unfetched, exactly_hart, exactly_fetched}
 use Rattle.rrs_trace.specs.HartRecords.{HasAccess}
-use Rattle.rrs_trace.proofs.HartAccesses.{access_fault, sources_unfetched, sources_fetched}
+use Rattle.rrs_trace.proofs.HartAccesses.{access_fault, words_at, not_halves, sources_unfetched, sources_fetched}
 use Rattle.rrs_trace.proofs.hart_retired.retire_parts.Goals as goal
 
 -- no word is there
@@ -20,7 +18,7 @@ returns-in-Err-clause-step g c =
     let s = state_of c.args.hart.now (memory.bytes c.args.mem.now) (memory.writable c.args.mem.now) in
     let kept : cleared s ≡ record (state_of c.args.hart.now (memory.bytes c.fetch_word.new.mem) (memory.writable c.fetch_word.new.mem)) { last = None } =
     (λ k. record (state_of c.args.hart.now (sym c.fetch_word.ensures.bytes_kept k) (sym c.fetch_word.ensures.writable_kept k)) { last = None }) in
-    let kits = kits_unfetched c.args.profile s (c.in-Err.ensures.none s refl refl) in
+    let kits = kits_unfetched c.args.profile s c.requires.whole (c.in-Err.ensures.none s refl refl) in
     subst (λ x. HartStep c.args.profile (hart_with s c.args.reservation.now) (hart_with x c.args.reservation.now) (Err c.in-Err.fault)) kept
     (OfKit kits (c.in-Err.ensures.fault s refl refl) refl)
 
@@ -31,11 +29,12 @@ returns-in-Err-clause-retires g c =
     let none = c.in-Err.ensures.none s refl refl in
     rw c.unfetched.ensures (record {
       order_is = refl;
-      insn_is = sym none;
+      insn_is = sym (words_at c.args.profile s c.requires.whole ∙ none);
       trap_is = refl;
       pc_before = refl;
       pc_after = refl;
-      sources = sources_unfetched c.args.profile _ none;
+      sources = λ _. sources_unfetched c.args.profile _ none;
+      halves_sources = λ halves. absurd (not_halves c.args.profile c.requires.whole halves);
       first_value = refl;
       second_value = refl;
       written = refl;
@@ -47,7 +46,7 @@ pub returns-in-Err-clause-accesses : goal.returns-in-Err-clause-accesses
 returns-in-Err-clause-accesses g c =
     let memory = g.M.Memory in
     let s = state_of c.args.hart.now (memory.bytes c.args.mem.now) (memory.writable c.args.mem.now) in
-    let kits = kits_unfetched c.args.profile s (c.in-Err.ensures.none s refl refl) in
+    let kits = kits_unfetched c.args.profile s c.requires.whole (c.in-Err.ensures.none s refl refl) in
     exactly_hart memory.reads memory.writes c.args.profile (hart_with s c.args.reservation.now) (read_if_aligned s s.pc Word) c.args.mem.now
     c.fetch_word.new.mem (KitAccesses kits (c.in-Err.ensures.alone s refl refl)) (c.fetch_word.ensures.makes s refl)
 
@@ -80,11 +79,12 @@ returns-clause-retires g c =
     let sources = c.sources_of-rs1_addr.ensures in
     record {
       order_is = refl;
-      insn_is = sym next;
+      insn_is = sym (words_at c.args.profile s c.requires.whole ∙ next);
       trap_is = search rules;
       pc_before = refl;
       pc_after = refl;
-      sources = sources_fetched c.args.profile _ c.in-Ok.word _ _ next sources.of_row sources.of_layer sources.of_illegal;
+      sources = λ _. sources_fetched c.args.profile _ c.in-Ok.word _ _ next sources.of_row sources.of_layer sources.of_illegal;
+      halves_sources = λ halves. absurd (not_halves c.args.profile c.requires.whole halves);
       first_value = c.register_value-rs1_rdata.ensures s refl;
       second_value = c.register_value-rs2_rdata.ensures s refl;
       written = c.last_register-rd_addr.ensures.number;
