@@ -2,11 +2,13 @@
 use Rattle.std.proofs.Common.{◌≡◌, ◌≢◌, ℕ, zero, suc, ◌+◌, ◌*◌, ◌/◌, ◌%◌, ◌^◌, ◌<◌, ◌≤◌, ◌⊎◌, inl, inr, Bool, true, false, ◌||◌, max, List, [], ◌∷◌, ◌++◌, ◌-◌, length, slice_index, Result, Ok, Err, IsTrue, is_ok, refl, ◌∙◌, arith}
 use Rattle.std.proofs.lemmas.Bool.Decides.{nat_tests}
 use Rattle.rrs_elf.specs.Headers.{e_ident_class, e_ident_data, e_ident_version, e_type, e_machine, e_version, e_entry, e_phoff, e_flags, e_phentsize, e_phnum, p_type, p_offset, p_filesz, p_memsz, segment_start}
+use Rattle.rrs_elf.specs.declared.code_units.CodeUnit.{CodeUnit}
+use Rattle.rrs_elf.specs.declared.code_units.CodeUnit.TheVariants.{Word, HalfWord}
 use Rattle.rrs_elf.specs.declared.program_headers.Addresses.{Addresses}
 use Rattle.rrs_elf.specs.declared.program_headers.Addresses.TheVariants.{Virtual}
-use Rattle.rrs_elf.specs.Executables.{HasAddress, IsExecutableAt}
+use Rattle.rrs_elf.specs.Executables.{HasAddress, HasCodeIn, bytes_of, IsExecutableAt, IsExecutableIn}
 use Rattle.rrs_elf.specs.declared.errors.ElfError.TheVariants.{SegmentsOverlap}
-use Rattle.rrs_elf.specs.Refusals.{Check, first_refusal, checks_below, identification_checks, kind_checks, flag_checks, table_checks, place_checks, overlap_check, segment_checks, entry_checks, checks_at, overlap, has_address, one_has_address, is_accepted}
+use Rattle.rrs_elf.specs.Refusals.{Check, first_refusal, checks_below, identification_checks, kind_checks, flag_checks, table_checks, place_checks, overlap_check, segment_checks, entry_checks, checks_at, checks_in, overlap, has_address, one_has_address, is_accepted}
 use Rattle.rrs_elf.specs.declared.errors.ElfError.{ElfError}
 use Rattle.rrs_elf.proofs.CheckLists.{joined, passed_first, passed_second, each_passed, all_passed}
 
@@ -111,13 +113,15 @@ kind_to : (file : List ℕ) → e_type file ≡ 2 → e_machine file ≡ 243 →
 unfolding kind_checks
 kind_to file t m v = grind (arith, nat_tests)
 
-flags_from : (file : List ℕ) → first_refusal (flag_checks file) ≡ Ok tt → (e_flags file % 2 ≡ 0) × (e_flags file / 2 % 4 ≡ 0) × (e_flags file / 8 % 2 ≡ 0)
+flags_from : (unit : CodeUnit) (file : List ℕ) → first_refusal (flag_checks unit file) ≡ Ok tt → HasCodeIn unit file × (e_flags file / 2 % 4 ≡ 0) × (e_flags file / 8 % 2 ≡ 0)
 unfolding flag_checks
-flags_from file passed = (grind (arith, nat_tests, passed), grind (arith, nat_tests, passed), grind (arith, nat_tests, passed))
+flags_from Word file passed = (grind (arith, nat_tests, passed), grind (arith, nat_tests, passed), grind (arith, nat_tests, passed))
+flags_from HalfWord file passed = (tt, grind (arith, nat_tests, passed), grind (arith, nat_tests, passed))
 
-flags_to : (file : List ℕ) → e_flags file % 2 ≡ 0 → e_flags file / 2 % 4 ≡ 0 → e_flags file / 8 % 2 ≡ 0 → first_refusal (flag_checks file) ≡ Ok tt
+flags_to : (unit : CodeUnit) (file : List ℕ) → HasCodeIn unit file → e_flags file / 2 % 4 ≡ 0 → e_flags file / 8 % 2 ≡ 0 → first_refusal (flag_checks unit file) ≡ Ok tt
 unfolding flag_checks
-flags_to file c f e = grind (arith, nat_tests)
+flags_to Word file c f e = grind (arith, nat_tests)
+flags_to HalfWord file c f e = grind (arith, nat_tests)
 
 table_from : (file : List ℕ) → first_refusal (table_checks file) ≡ Ok tt → (e_phentsize file ≡ 32) × (e_phnum file ≤ 256) × (e_phoff file + 32 * e_phnum file ≤ length file)
 unfolding table_checks
@@ -163,28 +167,28 @@ overlap_passes : (at : Addresses) (file : List ℕ) (i j : ℕ) → overlap at f
 unfolding overlap_check
 overlap_passes at file i j none = rw none refl
 
-entry_from : (file : List ℕ) → first_refusal (entry_checks file) ≡ Ok tt → (e_entry file % 4 ≡ 0) × (one_has_address file (e_phnum file) (e_entry file) ≡ true)
+entry_from : (unit : CodeUnit) (file : List ℕ) → first_refusal (entry_checks unit file) ≡ Ok tt → (e_entry file % bytes_of unit ≡ 0) × (one_has_address file (e_phnum file) (e_entry file) ≡ true)
 unfolding entry_checks
-entry_from file passed = (grind (arith, nat_tests, passed), grind (arith, nat_tests, passed))
+entry_from unit file passed = (grind (arith, nat_tests, passed), grind (arith, nat_tests, passed))
 
-entry_to : (file : List ℕ) → e_entry file % 4 ≡ 0 → one_has_address file (e_phnum file) (e_entry file) ≡ true → first_refusal (entry_checks file) ≡ Ok tt
+entry_to : (unit : CodeUnit) (file : List ℕ) → e_entry file % bytes_of unit ≡ 0 → one_has_address file (e_phnum file) (e_entry file) ≡ true → first_refusal (entry_checks unit file) ≡ Ok tt
 unfolding entry_checks
-entry_to file aligned inside = grind (arith, nat_tests)
+entry_to unit file aligned inside = grind (arith, nat_tests)
 
 -- ---- all of them
 
-pub accepted_from : (at : Addresses) (file : List ℕ) → first_refusal (checks_at at file) ≡ Ok tt → IsExecutableAt at file
-accepted_from at file passed =
+pub accepted_from : (unit : CodeUnit) (at : Addresses) (file : List ℕ) → first_refusal (checks_in unit at file) ≡ Ok tt → IsExecutableIn unit at file
+accepted_from unit at file passed =
     let first = identified file (passed_first (identification_checks file) _ passed) in
     let after_first = passed_second (identification_checks file) _ passed in
     let kind = kind_from file (passed_first (kind_checks file) _ after_first) in
     let after_kind = passed_second (kind_checks file) _ after_first in
-    let flags = flags_from file (passed_first (flag_checks file) _ after_kind) in
-    let after_flags = passed_second (flag_checks file) _ after_kind in
+    let flags = flags_from unit file (passed_first (flag_checks unit file) _ after_kind) in
+    let after_flags = passed_second (flag_checks unit file) _ after_kind in
     let table = table_from file (passed_first (table_checks file) _ after_flags) in
     let after_table = passed_second (table_checks file) _ after_flags in
     let segments = passed_first (checks_below (segment_checks at file) (e_phnum file)) _ after_table in
-    let entry = entry_from file (passed_second (checks_below (segment_checks at file) (e_phnum file)) _ after_table) in
+    let entry = entry_from unit file (passed_second (checks_below (segment_checks at file) (e_phnum file)) _ after_table) in
     let segment : (i : ℕ) → i < e_phnum file → first_refusal (segment_checks at file i) ≡ Ok tt = λ i below. each_passed (segment_checks at file) (e_phnum file) i below segments in
     let place : (i : ℕ) → i < e_phnum file → Placed at file i = λ i below. place_from at file i (passed_first (place_checks at file i) _ (segment i below)) in
     let apart_below : (i j a : ℕ) → j < i → HasAddress at file i a → HasAddress at file j a → ⊥ = λ i j a before one other.
@@ -201,7 +205,7 @@ accepted_from at file passed =
       executable = kind.0;
       risc_v = kind.1;
       version = kind.2;
-      not_compressed = flags.0;
+      code = flags.0;
       integers_only = flags.1;
       all_registers = flags.2;
       header_size = table.0;
@@ -224,18 +228,18 @@ accepted_from at file passed =
       entry_inside = one_of file (e_entry file) (e_phnum file) (omega arith) entry.1;
     }
 
-pub accepted_to : (at : Addresses) (file : List ℕ) → IsExecutableAt at file → first_refusal (checks_at at file) ≡ Ok tt
-accepted_to at file is =
+pub passed_in : (unit : CodeUnit) (at : Addresses) (file : List ℕ) → IsExecutableIn unit at file → first_refusal (checks_in unit at file) ≡ Ok tt
+passed_in unit at file is =
     let first = identification_passes file (record { whole = is.whole; magic = is.magic; class_32 = is.class_32; lowest_byte_first = is.lowest_byte_first; ident_version = is.ident_version }) in
     let kind = kind_to file is.executable is.risc_v is.version in
-    let flags = flags_to file is.not_compressed is.integers_only is.all_registers in
+    let flags = flags_to unit file is.code is.integers_only is.all_registers in
     let table = table_to file is.header_size is.counted is.headers_within in
     let inside = one_has file (e_entry file) (e_phnum file) is.entry_inside.0 is.entry_inside.1.loaded.numbered (has_to file _ _ is.entry_inside.1) in
-    let entry = entry_to file is.entry_aligned inside in
+    let entry = entry_to unit file is.entry_aligned inside in
     let segments = all_passed (segment_checks at file) (e_phnum file) (λ i below. segment_to i below) in
     pass (identification_checks file) _ first
     (pass (kind_checks file) _ kind
-    (pass (flag_checks file) _ flags
+    (pass (flag_checks unit file) _ flags
     (pass (table_checks file) _ table
     (pass (checks_below (segment_checks at file) (e_phnum file)) _ segments entry))))
   where
@@ -262,9 +266,13 @@ accepted_to at file is =
         }))
         (all_passed (overlap_check at file i) i (λ j before. overlap_passes at file i j (none_of i j below before)))
 
+-- the same without compressed code
+pub accepted_to : (at : Addresses) (file : List ℕ) → IsExecutableAt at file → first_refusal (checks_at at file) ≡ Ok tt
+accepted_to at file is = passed_in Word at file is
+
 -- what a value of the type holds
-pub holds : (at : Addresses) (file : List ℕ) → IsTrue (is_accepted at file) → IsExecutableAt at file
-holds at file accepted = accepted_from at file (ok_of (first_refusal (checks_at at file)) accepted)
+pub holds : (unit : CodeUnit) (at : Addresses) (file : List ℕ) → IsTrue (is_accepted unit at file) → IsExecutableIn unit at file
+holds unit at file accepted = accepted_from unit at file (ok_of (first_refusal (checks_in unit at file)) accepted)
   where
     ok_of : (r : Result (Unit {0}) ElfError) → IsTrue (is_ok r) → r ≡ Ok tt
     ok_of (Ok done) e = refl

@@ -7,8 +7,9 @@ use Rattle.rrs_memory.specs.AccessLists.{Access, Makes}
 use Rattle.rrs_memory.specs.Loading.{Loaded}
 use Rattle.rrs_memory.proofs.ByteLemmas.{outside_from_none}
 use Rattle.rrs_elf.specs.Headers.{e_phnum, p_filesz, segment_start}
+use Rattle.rrs_elf.specs.declared.code_units.CodeUnit.{CodeUnit}
 use Rattle.rrs_elf.specs.declared.program_headers.Addresses.{Addresses}
-use Rattle.rrs_elf.specs.Executables.{HasAddress, IsExecutableAt}
+use Rattle.rrs_elf.specs.Executables.{HasAddress, IsExecutableIn}
 use Rattle.rrs_elf.specs.Loading.{segment_byte, segment_bytes, loaded_size, Stands}
 use Rattle.rrs_elf.proofs.SegmentBytes.{length-segment_bytes, at-segment_bytes}
 
@@ -21,17 +22,17 @@ has_loaded at file i j numbered below = record {
 }
 
 -- it lies below 2 ^ 32
-pub loaded_low : (at : Addresses) (file : List ℕ) (i j : ℕ) → IsExecutableAt at file → i < e_phnum file → j < loaded_size file i → segment_start at file i + j < 2 ^ 32
-loaded_low at file i j is numbered below =
+pub loaded_low : (unit : CodeUnit) (at : Addresses) (file : List ℕ) (i j : ℕ) → IsExecutableIn unit at file → i < e_phnum file → j < loaded_size file i → segment_start at file i + j < 2 ^ 32
+loaded_low unit at file i j is numbered below =
     let has = has_loaded at file i j numbered below in
     let end = has.before_end in
     let low = is.addresses i has.loaded in
     omega arith
 
 -- the first k bytes more, of the next segment
-pub Stands-part : (at : Addresses) (file : List ℕ) (old mid new : ByteMap) (writable writable' : ℕ → Bool) (n k : ℕ) → IsExecutableAt at file → n < e_phnum file → k ≤ loaded_size file n
+pub Stands-part : (unit : CodeUnit) (at : Addresses) (file : List ℕ) (old mid new : ByteMap) (writable writable' : ℕ → Bool) (n k : ℕ) → IsExecutableIn unit at file → n < e_phnum file → k ≤ loaded_size file n
     → Stands at file old mid writable n 0 → writable' ≡ writable → Loaded mid new writable' (segment_start at file n) (segment_bytes file n k) → Stands at file old new writable n k
-Stands-part at file old mid new writable writable' n k is numbered within before kept loaded =
+Stands-part unit at file old mid new writable writable' n k is numbered within before kept loaded =
     let many = length-segment_bytes file n k in
     let start : ℕ = segment_start at file n in
     record {
@@ -64,12 +65,12 @@ Stands-part at file old mid new writable writable' n k is numbered within before
     place a start k = grind arith
 
 -- the zeros after the bytes of the file, of a segment whose addresses were 0
-pub Stands-rest : (at : Addresses) (file : List ℕ) (old new : ByteMap) (writable : ℕ → Bool) (n k : ℕ) → IsExecutableAt at file → n < e_phnum file
+pub Stands-rest : (unit : CodeUnit) (at : Addresses) (file : List ℕ) (old new : ByteMap) (writable : ℕ → Bool) (n k : ℕ) → IsExecutableIn unit at file → n < e_phnum file
     → k ≡ min (p_filesz file n) (loaded_size file n)
     → ((j : ℕ) → j < loaded_size file n → old (segment_start at file n + j) ≡ Some 0)
     → ((j : ℕ) → j < loaded_size file n → writable (segment_start at file n + j) ≡ true)
     → Stands at file old new writable n k → Stands at file old new writable n (loaded_size file n)
-Stands-rest at file old new writable n k is numbered size zeros room stands = record {
+Stands-rest unit at file old new writable n k is numbered size zeros room stands = record {
   segments = stands.segments;
   part = λ j below. elim (split j k) [ inl low ↦ stands.part j low | inr high ↦ stands.others (segment_start at file n + j) (apart j below) (λ j' below' same. absurd (omega (arith, same, high, below'))) ∙ zeros j below ∙ ap Some (zero_behind j below high) ];
   segments_writable = stands.segments_writable;

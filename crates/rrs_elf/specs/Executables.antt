@@ -1,8 +1,11 @@
 -- An executable for this machine (System V generic ABI, "ELF Header" and "Program Header"; RISC-V
 -- ELF psABI, "ELF Object Files", "File Header"): 32 bits, lowest byte first, linked to fixed
--- addresses, for RV32I with M and the integer calling convention.
+-- addresses, for RV32I with M, and with C where the machine has it, and the integer calling
+-- convention.
 use Rattle.std.specs.Prelude.{◌≡◌, ◌≢◌, ℕ, ◌+◌, ◌*◌, ◌/◌, ◌%◌, ◌^◌, ◌<◌, ◌≤◌, List, length, slice_index}
 use Rattle.rrs_elf.specs.Headers.{e_ident_class, e_ident_data, e_ident_version, e_type, e_machine, e_version, e_entry, e_phoff, e_flags, e_phentsize, e_phnum, p_type, p_offset, p_filesz, p_memsz, segment_start}
+use Rattle.rrs_elf.specs.declared.code_units.CodeUnit.{CodeUnit}
+use Rattle.rrs_elf.specs.declared.code_units.CodeUnit.TheVariants.{Word, HalfWord}
 use Rattle.rrs_elf.specs.declared.program_headers.Addresses.{Addresses}
 use Rattle.rrs_elf.specs.declared.program_headers.Addresses.TheVariants.{Virtual}
 
@@ -25,8 +28,21 @@ pub record HasAddress (at : Addresses) (file : List ℕ) (i address : ℕ) : Typ
   pub from_start : segment_start at file i ≤ address
   pub before_end : address < segment_start at file i + p_memsz file i
 
--- An executable that this machine can run, whose segments are loaded at these of their addresses.
-pub record IsExecutableAt (at : Addresses) (file : List ℕ) : Type 0 where
+-- how many bytes a unit has: IALIGN / 8 (RISC-V unprivileged specification, "Base
+-- Instruction-Length Encoding")
+abbrev pub bytes_of : CodeUnit → ℕ
+bytes_of Word = 4
+bytes_of HalfWord = 2
+
+-- A machine whose instructions lie in such units has those of the file. EF_RISCV_RVC (bit 0) is
+-- set where some may be compressed, which lie in half-words.
+abbrev pub HasCodeIn : CodeUnit → List ℕ → Type 0
+HasCodeIn Word file = e_flags file % 2 ≡ 0
+HasCodeIn HalfWord file = Unit
+
+-- An executable for a machine whose instructions lie in such units. Its segments are loaded at
+-- these of their addresses.
+pub record IsExecutableIn (unit : CodeUnit) (at : Addresses) (file : List ℕ) : Type 0 where
   -- the whole ELF header, which begins with 0x7f and "ELF"
   pub whole : 52 ≤ length file
   pub magic : (slice_index file 0 ≡ 0x7f) × (slice_index file 1 ≡ 0x45)
@@ -39,8 +55,8 @@ pub record IsExecutableAt (at : Addresses) (file : List ℕ) : Type 0 where
   pub executable : e_type file ≡ 2
   pub risc_v : e_machine file ≡ 243
   pub version : e_version file ≡ 1
-  -- neither EF_RISCV_RVC (bit 0), nor a floating-point ABI (bits 1 and 2), nor EF_RISCV_RVE (bit 3)
-  pub not_compressed : e_flags file % 2 ≡ 0
+  -- code that the machine has, no floating-point ABI (bits 1 and 2), and no EF_RISCV_RVE (bit 3)
+  pub code : HasCodeIn unit file
   pub integers_only : e_flags file / 2 % 4 ≡ 0
   pub all_registers : e_flags file / 8 % 2 ≡ 0
   -- program headers of 32 bytes, 256 at most, all of them in the file
@@ -59,8 +75,12 @@ pub record IsExecutableAt (at : Addresses) (file : List ℕ) : Type 0 where
   pub apart : (i j address : ℕ)
       → HasAddress at file i address → HasAddress at file j address → i ≡ j
   -- the entry is the virtual address of an instruction, in one of the segments
-  pub entry_aligned : e_entry file % 4 ≡ 0
+  pub entry_aligned : e_entry file % bytes_of unit ≡ 0
   pub entry_inside : (i : ℕ) × HasAddress Virtual file i (e_entry file)
+
+-- one for a machine without compressed code
+abbrev pub IsExecutableAt : Addresses → List ℕ → Type 0
+IsExecutableAt at file = IsExecutableIn Word at file
 
 -- one whose segments are loaded at their virtual addresses, as those of a process
 abbrev pub IsExecutable : List ℕ → Type 0

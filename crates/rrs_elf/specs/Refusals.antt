@@ -5,9 +5,11 @@ use Rattle.std.specs.Prelude.{ℕ, zero, suc, ◌+◌, ◌*◌, ◌/◌, ◌%◌
 use Rattle.rrs_elf.specs.declared.errors.ElfError.{ElfError}
 use Rattle.rrs_elf.specs.declared.errors.ElfError.TheVariants.{NotElf, HeaderCutShort, Class, ByteOrder, IdentVersion, PositionIndependent, NotExecutable, Machine, Version, CompressedCode, FloatingPoint, Embedded, ProgramHeaderSize, TooManyProgramHeaders, ProgramHeadersCutShort, Interpreter, SegmentCutShort, SegmentSizes, SegmentPastLastAddress, SegmentsOverlap, EntryMisaligned, EntryOutside}
 use Rattle.rrs_elf.specs.Headers.{e_ident_class, e_ident_data, e_ident_version, e_type, e_machine, e_version, e_entry, e_phoff, e_flags, e_phentsize, e_phnum, p_type, p_offset, p_vaddr, p_filesz, p_memsz, segment_start}
+use Rattle.rrs_elf.specs.declared.code_units.CodeUnit.{CodeUnit}
+use Rattle.rrs_elf.specs.declared.code_units.CodeUnit.TheVariants.{Word, HalfWord}
 use Rattle.rrs_elf.specs.declared.program_headers.Addresses.{Addresses}
 use Rattle.rrs_elf.specs.declared.program_headers.Addresses.TheVariants.{Virtual}
-use Rattle.rrs_elf.specs.Executables.{PT_INTERP, PT_LOAD}
+use Rattle.rrs_elf.specs.Executables.{PT_INTERP, PT_LOAD, bytes_of}
 
 -- a check: whether the file fails it, and what it is then refused for
 abbrev pub Check : Type 0
@@ -46,9 +48,14 @@ kind_checks file =
     ∷ (not (e_version file == 1), Version (e_version file))
     ∷ []
 
-unfoldable pub flag_checks : List ℕ → List Check
-flag_checks file =
-    (not (e_flags file % 2 == 0), CompressedCode)
+-- a machine whose instructions lie in such units lacks the compressed ones that the file may have
+abbrev pub lacks_code : CodeUnit → List ℕ → Bool
+lacks_code Word file = not (e_flags file % 2 == 0)
+lacks_code HalfWord file = false
+
+unfoldable pub flag_checks : CodeUnit → List ℕ → List Check
+flag_checks unit file =
+    (lacks_code unit file, CompressedCode)
     ∷ (not (e_flags file / 2 % 4 == 0), FloatingPoint)
     ∷ (not (e_flags file / 8 % 2 == 0), Embedded)
     ∷ []
@@ -106,23 +113,28 @@ one_has_address file zero address = false
 one_has_address file (suc n) address =
     one_has_address file n address || has_address file n address
 
-unfoldable pub entry_checks : List ℕ → List Check
-entry_checks file =
-    (not (e_entry file % 4 == 0), EntryMisaligned (e_entry file))
+unfoldable pub entry_checks : CodeUnit → List ℕ → List Check
+entry_checks unit file =
+    (not (e_entry file % bytes_of unit == 0), EntryMisaligned (e_entry file))
     ∷ (not (one_has_address file (e_phnum file) (e_entry file)), EntryOutside (e_entry file))
     ∷ []
 
 -- ---- all of them
 
--- for segments that are loaded at these of their addresses
-abbrev pub checks_at : Addresses → List ℕ → List Check
-checks_at at file = identification_checks file ++ (kind_checks file ++ (flag_checks file
+-- for a machine whose instructions lie in such units, and segments that are loaded at these of
+-- their addresses
+abbrev pub checks_in : CodeUnit → Addresses → List ℕ → List Check
+checks_in unit at file = identification_checks file ++ (kind_checks file ++ (flag_checks unit file
     ++ (table_checks file ++ (checks_below (segment_checks at file) (e_phnum file)
-    ++ entry_checks file))))
+    ++ entry_checks unit file))))
+
+-- for a machine without compressed code
+abbrev pub checks_at : Addresses → List ℕ → List Check
+checks_at at file = checks_in Word at file
 
 abbrev pub checks : List ℕ → List Check
 checks file = checks_at Virtual file
 
 -- whether a file is accepted
-abbrev pub is_accepted : Addresses → List ℕ → Bool
-is_accepted at file = is_ok (first_refusal (checks_at at file))
+abbrev pub is_accepted : CodeUnit → Addresses → List ℕ → Bool
+is_accepted unit at file = is_ok (first_refusal (checks_in unit at file))

@@ -1,11 +1,12 @@
 //! Which files are accepted.
 
 ghost use Rattle.std.specs.Prelude.{◌≡◌, ◌↔◌, ◌+◌, ◌*◌, ◌%◌, ◌^◌, ◌<◌, ◌≤◌, ℕ, length, IfOk, IfErr, IsOk, Err, IsTrue, IsSome, IfSome};
-ghost use Rattle.rrs_elf.specs.Headers.{e_entry, e_phnum, e_phoff, segment_start};
+ghost use Rattle.rrs_elf.specs.Headers.{e_entry, e_flags, e_phnum, e_phoff, segment_start};
 ghost use Rattle.rrs_elf.specs.ProgramHeaders.{IsProgramHeader};
-ghost use Rattle.rrs_elf.specs.Executables.{IsLoaded, IsExecutable, IsExecutableAt};
-ghost use Rattle.rrs_elf.specs.Refusals.{first_refusal, identification_checks, kind_checks, flag_checks, table_checks, entry_checks, checks, checks_at, begins_as_elf, is_accepted};
+ghost use Rattle.rrs_elf.specs.Executables.{bytes_of, IsLoaded, IsExecutable, IsExecutableAt, IsExecutableIn};
+ghost use Rattle.rrs_elf.specs.Refusals.{first_refusal, identification_checks, kind_checks, flag_checks, table_checks, entry_checks, checks, checks_at, checks_in, begins_as_elf, is_accepted};
 
+use crate::code_units::CodeUnit;
 use crate::errors::ElfError;
 use crate::numbers::{read_byte, read_half, read_word};
 use crate::program_headers::{Addresses, ProgramHeader, read_header_count, read_program_header};
@@ -76,13 +77,13 @@ fn check_kind(file: &[u8]) -> Result<(), ElfError>
     Ok(())
 }
 
-/// Refuses a file for what its code needs and this machine lacks.
+/// Refuses a file for what its code needs and the machine, whose code lies in such units, lacks.
 #[tactic(auto, unfolding(crate::specs::Refusals::flag_checks))]
-fn check_flags(file: &[u8]) -> Result<(), ElfError>
-    ensures { result ≡ first_refusal (flag_checks file.now) }
+fn check_flags(file: &[u8], unit: CodeUnit) -> Result<(), ElfError>
+    ensures { result ≡ first_refusal (flag_checks unit file.now) }
 {
     let flags = read_word(file, 36);
-    if flags % 2 != 0 {
+    if unit == CodeUnit::Word && flags % 2 != 0 {
         return Err(ElfError::CompressedCode);
     }
     if flags / 2 % 4 != 0 {
@@ -115,11 +116,11 @@ fn check_table(file: &[u8]) -> Result<(), ElfError>
 
 /// Refuses a file for its entry.
 #[tactic(auto, unfolding(crate::specs::Refusals::entry_checks))]
-fn check_entry(file: &[u8]) -> Result<(), ElfError>
-    ensures { result ≡ first_refusal (entry_checks file.now) }
+fn check_entry(file: &[u8], unit: CodeUnit) -> Result<(), ElfError>
+    ensures { result ≡ first_refusal (entry_checks unit file.now) }
 {
     let entry = read_word(file, 24);
-    if entry % 4 != 0 {
+    if !unit.begins_at(entry) {
         return Err(ElfError::EntryMisaligned(entry));
     }
     if !one_segment_has(file, entry) {
@@ -130,15 +131,23 @@ fn check_entry(file: &[u8]) -> Result<(), ElfError>
 
 /// Makes all checks, in their order.
 #[tactic(auto, using(crate::proofs::CheckLists::joined))]
-fn check(file: &[u8], addresses: Addresses) -> Result<(), ElfError>
-    ensures { result ≡ first_refusal (checks_at addresses file.now) }
+fn check(file: &[u8], addresses: Addresses, unit: CodeUnit) -> Result<(), ElfError>
+    ensures { result ≡ first_refusal (checks_in unit addresses file.now) }
 {
     check_identification(file)?;
     check_kind(file)?;
-    check_flags(file)?;
+    check_flags(file, unit)?;
     check_table(file)?;
     check_segments(file, addresses)?;
-    check_entry(file)
+    check_entry(file, unit)
+}
+
+/// Whether a file has a whole ELF header, whose `e_flags` has `EF_RISCV_RVC`: that of an executable
+/// with compressed code.
+pub fn has_compressed_code(file: &[u8]) -> bool
+    ensures { IsTrue result ↔ ((52 ≤ length file.now) × (e_flags file.now % 2 ≡ 1)) }
+{
+    file.len() >= HEADER_SIZE && read_word(file, 36) % 2 == 1
 }
 
 /// An executable that was accepted: the bytes of its file.
@@ -148,7 +157,9 @@ pub struct Executable<'a> {
     pub file: &'a [u8],
     /// Which addresses its segments are loaded at.
     pub addresses: Addresses,
-    ghost accepted: { IsTrue (is_accepted addresses file.now) },
+    /// What the instructions of the machine that it is for lie in.
+    pub unit: CodeUnit,
+    ghost accepted: { IsTrue (is_accepted unit addresses file.now) },
 }
 
 impl<'a> Executable<'a> {
@@ -160,6 +171,7 @@ impl<'a> Executable<'a> {
         ensures refused { IfErr result (λ error. first_refusal (checks file.now) ≡ Err error) }
         ensures same { IfOk result (λ made. made.file.now ≡ file.now) }
         ensures placed { IfOk result (λ made. made.addresses ≡ Addresses.Virtual) }
+        ensures unit { IfOk result (λ made. made.unit ≡ CodeUnit.Word) }
     {
         Executable::parse_at(file, Addresses::Virtual)
     }
@@ -172,16 +184,38 @@ impl<'a> Executable<'a> {
             first_refusal (checks_at addresses file.now) ≡ Err error) }
         ensures same { IfOk result (λ made. made.file.now ≡ file.now) }
         ensures placed { IfOk result (λ made. made.addresses ≡ addresses) }
+        ensures unit { IfOk result (λ made. made.unit ≡ CodeUnit.Word) }
     {
-        check(file, addresses)?;
-        Ok(Executable { file, addresses })
+        Executable::parse_in(file, addresses, CodeUnit::Word)
     }
 
-    /// The address of the first instruction (`e_entry`): a multiple of 4, and a virtual one of a
+    /// The same of an executable for a machine whose instructions lie in such units: in half-words
+    /// they may be compressed, and the entry is even.
+    pub fn parse_in(
+        file: &'a [u8],
+        addresses: Addresses,
+        unit: CodeUnit,
+    ) -> Result<Executable<'a>, ElfError>
+        ensures accepted { IsOk result ↔ IsExecutableIn unit addresses file.now }
+        ensures refused { IfErr result (λ error.
+            first_refusal (checks_in unit addresses file.now) ≡ Err error) }
+        ensures same { IfOk result (λ made. made.file.now ≡ file.now) }
+        ensures placed { IfOk result (λ made. made.addresses ≡ addresses) }
+        ensures unit { IfOk result (λ made. made.unit ≡ unit) }
+    {
+        check(file, addresses, unit)?;
+        Ok(Executable {
+            file,
+            addresses,
+            unit,
+        })
+    }
+
+    /// The address of the first instruction (`e_entry`), at which a unit begins: a virtual one of a
     /// loaded segment.
     pub fn entry(&self) -> u32
         ensures value { result ≡ e_entry self.now.file.now }
-        ensures aligned { result % 4 ≡ 0 }
+        ensures aligned { result % bytes_of self.now.unit ≡ 0 }
     {
         read_word(self.file, 24)
     }

@@ -29,7 +29,8 @@ pub enum ElfError {
     Machine(u16),
     /// `e_version` is this, and not 1.
     Version(u32),
-    /// `e_flags` has `EF_RISCV_RVC`: the file has compressed code.
+    /// `e_flags` has `EF_RISCV_RVC`: the file has compressed code, and the machine's instructions
+    /// are words.
     CompressedCode,
     /// `e_flags` has a floating-point ABI.
     FloatingPoint,
@@ -54,7 +55,7 @@ pub enum ElfError {
     /// The loaded segments of these numbers, the smaller first, have an address in common where
     /// they are loaded.
     SegmentsOverlap(u16, u16),
-    /// `e_entry` is this, and no multiple of 4.
+    /// `e_entry` is this, and no multiple of 4, or, on a machine that has compressed code, odd.
     EntryMisaligned(u32),
     /// `e_entry` is this, and no loaded segment has the virtual address.
     EntryOutside(u32),
@@ -249,7 +250,10 @@ impl fmt::Display for ElfError {
         let (_, before, behind) = TEXTS[self.number()];
         f.write_str(before)?;
         self.write_numbers(f)?;
-        f.write_str(behind)
+        match *self {
+            ElfError::EntryMisaligned(entry) if entry % 2 != 0 => f.write_str(", odd"),
+            _ => f.write_str(behind),
+        }
     }
 }
 

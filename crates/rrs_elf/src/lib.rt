@@ -5,7 +5,8 @@
 //! without a floating-point ABI, linked to fixed addresses. A file that it refuses gets the first
 //! refusal of a list, [ElfError]. [Executable] then answers from these bytes: its entry, its
 //! segments, and its symbol table. [Executable::load] writes the segments into a memory, at their
-//! virtual addresses, or, after [Executable::parse_at], at their physical ones.
+//! virtual addresses, or, after [Executable::parse_at], at their physical ones. A machine with
+//! compressed instructions has [Executable::parse_in], which accepts code of both kinds.
 //!
 //! ```text
 //! let program = Executable::parse(&file)?;         // a `&[u8]`, and an `ElfError`
@@ -25,6 +26,7 @@
 #![tactic(auto)]
 
 mod accepting;
+mod code_units;
 mod errors;
 mod loading;
 mod locations;
@@ -34,7 +36,8 @@ mod sections;
 mod segments;
 mod symbol_table;
 
-pub use accepting::Executable;
+pub use accepting::{Executable, has_compressed_code};
+pub use code_units::CodeUnit;
 pub use errors::ElfError;
 pub use loading::Refused;
 pub use locations::Location;

@@ -1,8 +1,8 @@
 //! The code of an executable.
 
 use crate::functions::{Function, add_functions, name_units, shown_part};
-use crate::sections::{CodePart, CodeUnit, add_code_parts};
-use rrs_elf::{Executable, Symbols};
+use crate::sections::{CodePart, add_code_parts};
+use rrs_elf::{CodeUnit, Executable, Symbols};
 use std::alloc::{AllocError, Global};
 
 /// The most bytes, from the first address of code on, that have symbols: 16 MiB.

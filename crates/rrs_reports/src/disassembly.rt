@@ -3,7 +3,8 @@
 use crate::code::Code;
 use crate::coverage::Coverage;
 use crate::pieces::Pieces;
-use crate::sections::{CodePart, CodeUnit};
+use crate::sections::CodePart;
+use rrs_elf::CodeUnit;
 use rrs_lib::disassembly::{Disassembled, hexadecimal_digits};
 use rrs_lib::instruction::{Instruction, decode};
 use rrs_lib::instruction_formats::{BType, JType};

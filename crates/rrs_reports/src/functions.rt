@@ -1,8 +1,7 @@
 //! The functions of an executable, by the units of code that belong to each.
 
 use crate::names::SHOWN_BYTES;
-use crate::sections::CodeUnit;
-use rrs_elf::{Symbol, Symbols};
+use rrs_elf::{CodeUnit, Symbol, Symbols};
 use std::alloc::AllocError;
 
 /// A function, or a label of assembly with what follows it.

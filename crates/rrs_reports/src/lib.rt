@@ -39,5 +39,5 @@ pub use functions::Function;
 pub use names::{SHOWN_BYTES, ShownName};
 pub use pieces::Pieces;
 pub use profile::{Profile, cover_process};
-pub use sections::{CodePart, CodeUnit};
+pub use sections::CodePart;
 pub use summary::{Covered, write_summary};

@@ -1,52 +1,13 @@
 //! The parts of a file that have code: by its sections, or, where it has none, by its segments.
 
-ghost use Rattle.std.specs.Prelude.{◌≤◌, ◌/◌};
-
 use crate::names::SHOWN_BYTES;
-use rrs_elf::Executable;
+use rrs_elf::{CodeUnit, Executable};
 use std::alloc::AllocError;
 
 /// The flag of a section that has code (`SHF_EXECINSTR`).
 const HAS_CODE: u32 = 4;
 /// The type of a section that has bytes in the file (`SHT_PROGBITS`).
 const HAS_BYTES: u32 = 1;
-
-/// What instructions lie in.
-#[derive(Debug, PartialEq, Clone, Copy)]
-pub enum CodeUnit {
-    /// Words at multiples of 4.
-    Word,
-    /// Half-words at even addresses, of which an instruction has one or two: compressed code.
-    HalfWord,
-}
-
-impl CodeUnit {
-    /// How many bytes a unit has.
-    pub(crate) fn bytes(self) -> u32
-        ensures { (2 ≤ result) × (result ≤ 4) }
-    {
-        match self {
-            CodeUnit::Word => 4,
-            CodeUnit::HalfWord => 2,
-        }
-    }
-
-    /// How many whole units so many bytes have.
-    #[inline]
-    pub(crate) fn count(self, bytes: u32) -> u32
-        ensures { result ≤ bytes / 2 }
-    {
-        match self {
-            CodeUnit::Word => bytes / 4,
-            CodeUnit::HalfWord => bytes / 2,
-        }
-    }
-
-    /// Whether a unit begins at an address.
-    pub(crate) fn begins_at(self, address: u32) -> bool {
-        address % self.bytes() == 0
-    }
-}
 
 /// A part of an executable that has code.
 #[derive(Clone, Copy)]

@@ -2,8 +2,8 @@
 
 use crate::files::{buffered, read_program, unwritten};
 use crate::refusal::{Refusal, no_executable, out_of_memory};
-use rrs_elf::{Addresses, ElfError, Executable};
-use rrs_reports::{Code, CodeUnit, write_disassembly};
+use rrs_elf::{Addresses, CodeUnit, ElfError, Executable};
+use rrs_reports::{Code, write_disassembly};
 use std::alloc::{AllocError, Global};
 use std::io::{self, Write};
 use std::rt::Files;

@@ -11,7 +11,7 @@ pub load_segment-requires : goal.load_segment-requires
 load_segment-requires g c = λ k below.
     let counted = c.loop-index.invariant.counted in
     let size = c.size_to_load-size.ensures _ _ c.read_program_header-segment.ensures in
-    loaded_low c.args.self.now.addresses c.args.self.now.file.now c.loop-index.index k (holds c.args.self.now.addresses c.args.self.now.file.now c.args.self.now.accepted) (omega arith) (omega (arith, below, size))
+    loaded_low c.args.self.now.unit c.args.self.now.addresses c.args.self.now.file.now c.loop-index.index k (holds c.args.self.now.unit c.args.self.now.addresses c.args.self.now.file.now c.args.self.now.accepted) (omega arith) (omega (arith, below, size))
 
 pub loop-index-preserved : goal.loop-index-preserved
 loop-index-preserved g c =
@@ -22,10 +22,10 @@ loop-index-preserved g c =
     let n = c.loop-index.index in
     let size : c.size_to_load-size.result ≡ loaded_size file n = c.size_to_load-size.ensures file n c.read_program_header-segment.ensures in
     let did = rw size at c.in_ok-load_segment.ensures in
-    let is = holds at file c.args.self.now.accepted in
+    let is = holds c.args.self.now.unit at file c.args.self.now.accepted in
     rw (add-one n) record {
       counted = counted;
-      stands = Stands-next at file _ _ _ n (Stands-part at file _ _ _ _ _ n (loaded_size file n) is (omega arith) (omega arith) so_far.stands so_far.writable_kept did.loaded);
+      stands = Stands-next at file _ _ _ n (Stands-part c.args.self.now.unit at file _ _ _ _ _ n (loaded_size file n) is (omega arith) (omega arith) so_far.stands so_far.writable_kept did.loaded);
       made = Makes-join _ _ (segment_writes at (g.M.Memory.writable c.args.memory.now) file n) _ _ _ _ so_far.made
           (subst (λ (w : ℕ → Bool). Makes g.M.Memory.reads g.M.Memory.writes (byte_writes w (segment_start at file n) (segment_bytes file n (loaded_size file n))) c.loop-index.memory c.load_segment.new.memory) so_far.writable_kept did.made);
       writable_kept = did.writable_kept ∙ so_far.writable_kept;
@@ -42,7 +42,7 @@ returns-in_err-load_segment-clause-refused g c =
     let size : c.size_to_load-size.result ≡ loaded_size file n = c.size_to_load-size.ensures file n c.read_program_header-segment.ensures in
     let did = rw size at c.in_err-load_segment.ensures in
     let stop = did.stopped in
-    let is = holds at file c.args.self.now.accepted in
+    let is = holds c.args.self.now.unit at file c.args.self.now.accepted in
     let kept = so_far.writable_kept in
     let answer : c.from_residual.result ≡ Err c.in_err-load_segment.field-0.0 = grind arith in
     rw answer record {
@@ -52,7 +52,7 @@ returns-in_err-load_segment-clause-refused g c =
       within = stop.1;
       here = stop.2;
       not_writable = subst (λ (w : ℕ → Bool). w c.in_err-load_segment.field-0.0.address ≡ false) kept stop.3;
-      stands = Stands-part at file _ _ _ _ _ n stop.0 is (omega arith) (omega arith) so_far.stands kept stop.4;
+      stands = Stands-part c.args.self.now.unit at file _ _ _ _ _ n stop.0 is (omega arith) (omega arith) so_far.stands kept stop.4;
       made = Makes-join _ _ (segment_writes at (g.M.Memory.writable c.args.memory.now) file n) _ _ _ _ so_far.made
           (subst (λ (w : ℕ → Bool). Makes g.M.Memory.reads g.M.Memory.writes (byte_writes w (segment_start at file n) (segment_bytes file n (suc stop.0))) c.loop-index.memory c.load_segment.new.memory) kept stop.5);
     }

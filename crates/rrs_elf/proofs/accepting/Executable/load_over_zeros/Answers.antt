@@ -8,13 +8,13 @@ use Rattle.rrs_elf.proofs.accepting.Executable.load_over_zeros.Goals as goal
 pub check_within-requires : goal.check_within-requires
 check_within-requires g c = λ k below.
     let counted = c.loop-index.invariant.counted in
-    loaded_low c.args.self.now.addresses c.args.self.now.file.now c.loop-index.index k (holds c.args.self.now.addresses c.args.self.now.file.now c.args.self.now.accepted) (omega arith) below
+    loaded_low c.args.self.now.unit c.args.self.now.addresses c.args.self.now.file.now c.loop-index.index k (holds c.args.self.now.unit c.args.self.now.addresses c.args.self.now.file.now c.args.self.now.accepted) (omega arith) below
 
 pub load_segment-requires : goal.load_segment-requires
 load_segment-requires g c = λ k below.
     let counted = c.loop-index.invariant.counted in
     let size = c.size_in_file-size.ensures _ _ c.read_program_header-segment.ensures in
-    loaded_low c.args.self.now.addresses c.args.self.now.file.now c.loop-index.index k (holds c.args.self.now.addresses c.args.self.now.file.now c.args.self.now.accepted) (omega arith) (omega (arith, below, size))
+    loaded_low c.args.self.now.unit c.args.self.now.addresses c.args.self.now.file.now c.loop-index.index k (holds c.args.self.now.unit c.args.self.now.addresses c.args.self.now.file.now c.args.self.now.accepted) (omega arith) (omega (arith, below, size))
 
 pub loop-index-preserved : goal.loop-index-preserved
 loop-index-preserved g c =
@@ -25,13 +25,13 @@ loop-index-preserved g c =
     let n = c.loop-index.index in
     let size : c.size_in_file-size.result ≡ min (p_filesz file n) (loaded_size file n) = c.size_in_file-size.ensures file n c.read_program_header-segment.ensures in
     let did = c.in_ok-load_segment.ensures in
-    let is = holds at file c.args.self.now.accepted in
+    let is = holds c.args.self.now.unit at file c.args.self.now.accepted in
     let room : (j : ℕ) → j < loaded_size file n → g.M.Memory.writable c.args.memory.now (segment_start at file n + j) ≡ true =
     λ j below. c.requires.writable (segment_start at file n + j) ∙ c.in_ok-check_within.ensures.within j below in
-    let part = Stands-part at file _ _ _ _ _ n c.size_in_file-size.result is (omega arith) (omega (arith, size)) so_far.stands so_far.writable_kept did.loaded in
+    let part = Stands-part c.args.self.now.unit at file _ _ _ _ _ n c.size_in_file-size.result is (omega arith) (omega (arith, size)) so_far.stands so_far.writable_kept did.loaded in
     rw (add-one n) record {
       counted = counted;
-      stands = Stands-next at file _ _ _ n (Stands-rest at file _ _ _ n c.size_in_file-size.result is (omega arith) size
+      stands = Stands-next at file _ _ _ n (Stands-rest c.args.self.now.unit at file _ _ _ n c.size_in_file-size.result is (omega arith) size
           (λ j below. c.requires.zeros (segment_start at file n + j) (room j below)) room part);
       writable_kept = did.writable_kept ∙ so_far.writable_kept;
       layout_kept = did.layout_kept ∙ so_far.layout_kept;

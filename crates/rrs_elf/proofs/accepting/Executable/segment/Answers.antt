@@ -6,7 +6,7 @@ use Rattle.rrs_elf.proofs.accepting.Executable.segment.Goals as goal
 
 pub returns-then-is_loaded-clause-sizes : goal.returns-then-is_loaded-clause-sizes
 returns-then-is_loaded-clause-sizes c =
-    let is = holds c.args.self.now.addresses c.args.self.now.file.now c.args.self.now.accepted in
+    let is = holds c.args.self.now.unit c.args.self.now.addresses c.args.self.now.file.now c.args.self.now.accepted in
     let header = c.in_ok-header.ensures.value in
     let kind = c.if-is_loaded.ensures.0 refl in
     let loaded : IsLoaded c.args.self.now.file.now c.args.index = record { numbered = c.in_ok-header.ensures.there.0 refl; of_type = sym header.type_is ∙ kind } in
@@ -17,7 +17,7 @@ returns-then-is_loaded-clause-sizes c =
 
 pub returns-then-is_loaded-clause-within_file : goal.returns-then-is_loaded-clause-within_file
 returns-then-is_loaded-clause-within_file c = λ some.
-    let is = holds c.args.self.now.addresses c.args.self.now.file.now c.args.self.now.accepted in
+    let is = holds c.args.self.now.unit c.args.self.now.addresses c.args.self.now.file.now c.args.self.now.accepted in
     let header = c.in_ok-header.ensures.value in
     let kind = c.if-is_loaded.ensures.0 refl in
     let loaded : IsLoaded c.args.self.now.file.now c.args.index = record { numbered = c.in_ok-header.ensures.there.0 refl; of_type = sym header.type_is ∙ kind } in
@@ -28,7 +28,7 @@ returns-then-is_loaded-clause-within_file c = λ some.
 
 pub returns-then-is_loaded-clause-addresses : goal.returns-then-is_loaded-clause-addresses
 returns-then-is_loaded-clause-addresses c =
-    let is = holds c.args.self.now.addresses c.args.self.now.file.now c.args.self.now.accepted in
+    let is = holds c.args.self.now.unit c.args.self.now.addresses c.args.self.now.file.now c.args.self.now.accepted in
     let header = c.in_ok-header.ensures.value in
     let kind = c.if-is_loaded.ensures.0 refl in
     let loaded : IsLoaded c.args.self.now.file.now c.args.index = record { numbered = c.in_ok-header.ensures.there.0 refl; of_type = sym header.type_is ∙ kind } in
