@@ -1,7 +1,7 @@
 //! Files that are accepted: their segments, what a load leaves, and their symbols.
 
 use crate::elf::file::{FILE, changed, symbols_of};
-use rrs_elf::{Executable, Refused, Symbols};
+use rrs_elf::{Addresses, CodeUnit, ElfError, Executable, Refused, Symbols, has_compressed_code};
 use rrs_memory::memories::SliceMemory;
 use std::alloc::{AllocError, Global};
 use std::test::Fail;
@@ -29,6 +29,69 @@ fn limits_are_accepted(rt: HostRuntime) -> Result<(), Fail> {
     for (at, value) in JUST_ACCEPTED.iter() {
         let is_accepted = is_accepted(rt.alloc(), *at, 4, *value)?;
         assert!(rt; is_accepted, "{value:#x} at {at}");
+    }
+    Ok(())
+}
+
+/// Why a file is refused for a machine whose instructions lie in such units, if it is.
+fn refusal_in(file: &[u8], unit: CodeUnit) -> Option<ElfError> {
+    match Executable::parse_in(file, Addresses::Virtual, unit) {
+        Ok(_program) => None,
+        Err(error) => Some(error),
+    }
+}
+
+/// Changes, each with the refusal of a machine without compressed code, and that of one with it:
+/// none, the flag of compressed code, that flag and a floating-point ABI, and an entry at half a
+/// word, at an odd address, and outside.
+static IN_UNITS: [((usize, u32), Option<ElfError>, Option<ElfError>); 6] = [
+    ((36, 0), None, None),
+    ((36, 1), Some(ElfError::CompressedCode), None),
+    (
+        (36, 3),
+        Some(ElfError::CompressedCode),
+        Some(ElfError::FloatingPoint),
+    ),
+    (
+        (24, 0x10002),
+        Some(ElfError::EntryMisaligned(0x10002)),
+        None,
+    ),
+    (
+        (24, 0x10001),
+        Some(ElfError::EntryMisaligned(0x10001)),
+        Some(ElfError::EntryMisaligned(0x10001)),
+    ),
+    (
+        (24, 0x10010),
+        Some(ElfError::EntryOutside(0x10010)),
+        Some(ElfError::EntryOutside(0x10010)),
+    ),
+];
+
+#[test]
+fn half_words_allow_compressed_code(rt: HostRuntime) -> Result<(), Fail> {
+    for ((at, value), of_words, of_half_words) in IN_UNITS.iter() {
+        let file = changed(rt.alloc(), FILE.len(), *at, 4, *value)?;
+        let refused = refusal_in(&file, CodeUnit::Word);
+        assert!(rt; refused == *of_words, "{value:#x} at {at}: {refused:?}");
+        let refused = refusal_in(&file, CodeUnit::HalfWord);
+        assert!(rt;
+            refused == *of_half_words,
+            "{value:#x} at {at}: {refused:?}"
+        );
+    }
+    Ok(())
+}
+
+#[test]
+fn a_whole_header_tells_compressed_code(rt: HostRuntime) -> Result<(), Fail> {
+    for (length, flags, wanted) in [(52, 1, true), (51, 1, false), (428, 0x18, false)].iter() {
+        let file = changed(rt.alloc(), *length, 36, 4, *flags)?;
+        assert!(rt;
+            has_compressed_code(&file) == *wanted,
+            "{flags:#x}, {length} bytes"
+        );
     }
     Ok(())
 }

@@ -9,7 +9,7 @@ use std::test::Fail;
 type Change = (usize, usize, usize, u32);
 
 /// Changes, each with the refusal and its text.
-static REFUSED: [(Change, ElfError, &str); 33] = [
+static REFUSED: [(Change, ElfError, &str); 34] = [
     ((428, 0, 1, 0x7e), ElfError::NotElf, "not an ELF file"),
     ((3, 0, 0, 0), ElfError::NotElf, "not an ELF file"),
     (
@@ -116,6 +116,11 @@ static REFUSED: [(Change, ElfError, &str); 33] = [
         (428, 24, 4, 0x10002),
         ElfError::EntryMisaligned(0x10002),
         "e_entry is 0x00010002, no multiple of 4",
+    ),
+    (
+        (428, 24, 4, 0x10001),
+        ElfError::EntryMisaligned(0x10001),
+        "e_entry is 0x00010001, odd",
     ),
     (
         (428, 24, 4, 0x10010),
