@@ -3,7 +3,8 @@
 use crate::board_debugging::debug_board;
 use rrs_cli::loading::load;
 use rrs_exec::{
-    DECODED_WORDS, Image, LoadedProcess, ProcessMemory, ProtectedMemory, load_process, started,
+    DECODED_WORDS, Image, LoadedProcess, ProcessMemory, ProtectedMemory, load_process,
+    process_profile, started,
 };
 use rrs_fast::{CachedMemory, Ending, OwnCache};
 use rrs_gdb::{Link, LinkError, SessionEnd, SessionState, Settings, serve};
@@ -138,7 +139,8 @@ fn debug_executable<'f, 'a, R: Read, W: Write>(
         return Err(out_of_memory());
     };
     let memory = memory_for(program.file, program.request.memory);
-    let loaded = load_process(alloc, program.file, &arguments, &variables, memory);
+    let profile = process_profile(false);
+    let loaded = load_process(alloc, program.file, &arguments, &variables, memory, profile);
     let LoadedProcess { image, memory } = match loaded {
         Ok(process) => process,
         Err(error) => return Err(no_image(path, program.file, error)),

@@ -89,7 +89,7 @@ const EXECUTE: Subcommand = Subcommand {
     PROGRAM [ARGUMENT] ..",
     },
     summary: "runs a program that makes system calls of Linux",
-    help: "Runs PROGRAM, an ELF executable for RV32IMA, as a process of Linux with these
+    help: "Runs PROGRAM, an ELF executable for RV32IMAC, as a process of Linux with these
 ARGUMENTs: in a memory of 256 MiB, or of what it needs up to 1 GiB (--memory, up to
 4G), with its heap after its segments, its stack at the end, and a gap between them;
 code and constants are read-only. It makes at most STEPS steps, of which each system

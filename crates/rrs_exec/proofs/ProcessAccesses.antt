@@ -1,15 +1,12 @@
 -- What an access of a process's memory reads and leaves.
-use Rattle.std.proofs.Common.{◌≡◌, ℕ, ◌+◌, ◌-◌, ◌*◌, ◌/◌, ◌%◌, ◌^◌, ◌<◌, ◌≤◌, Bool, true, false, List, length, slice_index_or, Option, Some, None, refl, sym, ap, subst, ◌∙◌, arith}
-use Rattle.std.proofs.Math.Path.{fun_ext}
-use Rattle.std.proofs.lemmas.Bool.{OnTrue_from, OnFalse_from}
+use Rattle.std.proofs.Common.{◌≡◌, ℕ, ◌+◌, ◌-◌, ◌*◌, ◌/◌, ◌%◌, ◌^◌, ◌<◌, ◌≤◌, true, false, List, length, Option, Some, None, refl, sym, ap, ◌∙◌, arith}
 use Rattle.std.proofs.lemmas.Bool.Decides.{nat_tests}
 use Rattle.rrs_memory.specs.declared.MemAccessSize.{MemAccessSize}
 use Rattle.rrs_memory.specs.Bytes.{width, little_endian, all_writable, store, Reads, Writes, IsLawful, EndsAtLastAddress}
 use Rattle.rrs_fast.specs.ZeroWords.{bytes_or_zero}
 use Rattle.rrs_exec.specs.ProcessPlaces.{distance, distance_below}
-use Rattle.rrs_exec.specs.ProcessMemories.{lies_between, place_below, process_bytes, process_writable, process_layout, process_reads, ProcessWrites}
+use Rattle.rrs_exec.specs.ProcessMemories.{lies_between, place_below, process_bytes, process_writable, process_layout}
 use Rattle.rrs_exec.specs.declared.process_memory.ProcessMemory.{ProcessMemory}
-use Rattle.rrs_fast.proofs.ZeroBytes.{same_bytes}
 use Rattle.rrs_exec.proofs.ProcessBytes as Parts
 
 -- the bytes are lawful everywhere, and end where addresses do

@@ -11,7 +11,7 @@ use Rattle.rrs_hart.specs.declared.profile.HartProfile.{HartProfile}
 use Rattle.rrs_hart.specs.Harts.{Hart, hart_with, HartStep, HartRun, AccessesOfHart, AccessesOfHartRun}
 use Rattle.rrs_fast.specs.declared.serving.Ending.{Ending}
 use Rattle.rrs_fast.specs.declared.serving.Ending.TheVariants.{Limit, Fault, Exit}
-use Rattle.rrs_fast.specs.Serving.{Relation, EndsBy, Called, HartServed, Last, Exits, GoesOn}
+use Rattle.rrs_fast.specs.Serving.{Relation, Called, HartServed, Last, Exits, GoesOn}
 use Rattle.rrs_fast.proofs.Rounds.{ends_by_fault}
 use Rattle.rrs_exec.specs.Watching.{ServesAt, SeesStep, Turn, Stepped, Faulted, Turns, NoTurn, OneMore, ToLimit, ToExit, ToFault, IsWatched}
 use Rattle.rrs_exec.specs.Watching.{Called as CalledTurn}

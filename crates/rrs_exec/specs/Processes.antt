@@ -1,9 +1,11 @@
 -- What it is to run an executable as a process that makes system calls.
-use Rattle.std.specs.Prelude.{◌≡◌, ℕ, Bool, true, false, not, List, ◌∷◌, replicate, Option, None}
+use Rattle.std.specs.Prelude.{◌≡◌, ℕ, Bool, true, false, not, if◌then◌else◌, List, ◌∷◌, replicate, Option, None}
 use Rattle.rrs_lib.specs.Bytes.{ByteMap}
 use Rattle.rrs_lib.specs.AccessLists.{Access}
 use Rattle.rrs_lib.specs.Machine.{State}
-use Rattle.rrs_elf.specs.Executables.{IsExecutable}
+use Rattle.rrs_elf.specs.Executables.{IsExecutableIn}
+use Rattle.rrs_elf.specs.declared.code_units.CodeUnit.{CodeUnit}
+use Rattle.rrs_elf.specs.declared.code_units.CodeUnit.TheVariants.{Word, HalfWord}
 use Rattle.rrs_elf.specs.declared.program_headers.Addresses.TheVariants.{Virtual}
 use Rattle.rrs_exec.specs.declared.image.Image.{Image}
 use Rattle.rrs_exec.specs.Protection.{bytes_under, writable_under}
@@ -18,7 +20,7 @@ use Rattle.rrs_linux.specs.declared.Process.{Process}
 use Rattle.rrs_linux.specs.declared.host_writer.HostWriter.{HostWriter}
 use Rattle.rrs_linux.specs.declared.host_side.HostSide.{HostSide}
 
--- All layers, as Linux has them for a process: misaligned loads and stores unless these are strict.
+-- the layers of the hart of a process: misaligned loads and stores unless these are strict
 abbrev pub process_profile : Bool → HartProfile
 process_profile strict = record {
   atomics = true;
@@ -26,6 +28,10 @@ process_profile strict = record {
   misaligned = not strict;
   compressed = false;
 }
+
+-- what the instructions of a hart lie in
+abbrev pub unit_of : HartProfile → CodeUnit
+unit_of p = if p.compressed then HalfWord else Word
 
 -- What a run of a program does: how it ends, the environment and the state then, within a limit,
 -- from an environment and a state, after so many steps, with these accesses.
@@ -57,12 +63,12 @@ heap_of image = record {
   top = image.layout.heap_start;
 }
 
--- A process is loaded and has made no step: a file is an executable, an image is one of it, and its
--- segments, at their virtual addresses, and its stack stand in a memory that is writable from the
+-- A process is loaded and has made no step: a file is an executable for a machine whose instructions
+-- lie in such units, an image is one of it, and its segments, at their virtual addresses, and its stack stand in a memory that is writable from the
 -- first address to the end, and that is 0 elsewhere.
-pub record IsLoaded (file : List ℕ) (arguments variables : List (List ℕ)) (wanted : ℕ)
-    (image : Image) (bytes : ByteMap) (writable : ℕ → Bool) : Type 0 where
-  pub executable : IsExecutable file
+pub record IsLoaded (unit : CodeUnit) (file : List ℕ) (arguments variables : List (List ℕ))
+    (wanted : ℕ) (image : Image) (bytes : ByteMap) (writable : ℕ → Bool) : Type 0 where
+  pub executable : IsExecutableIn unit Virtual file
   pub is_image : IsImage file arguments variables wanted image
   pub long : writable ≡ lies_between image.layout.base image.layout.end
   pub filled : Filled Virtual file image.stack_pointer image.stack.items
@@ -95,11 +101,12 @@ module _ {R W E : Type 0} (Runs : Chain (Process R (HostWriter W) (HostWriter E)
   -- of its pages and its system calls are served, and this is how that ends: after so many steps,
   -- at this pc. So what the environment's writers hold then is what they held, and what each write
   -- wrote, in order; and what its reader gave, the calls that read gave to the program.
-  pub record RunsProcess (file : List ℕ) (arguments variables : List (List ℕ)) (wanted limit : ℕ)
+  pub record RunsProcess (unit : CodeUnit) (file : List ℕ) (arguments variables : List (List ℕ))
+      (wanted limit : ℕ)
       (old new : Process R (HostWriter W) (HostWriter E) HostSide)
       (steps pc : ℕ) (ending : Ending) : Type 0 where
     pub image : Image
     pub bytes : ByteMap
     pub writable : ℕ → Bool
-    pub loaded : IsLoaded file arguments variables wanted image bytes writable
+    pub loaded : IsLoaded unit file arguments variables wanted image bytes writable
     pub runs : RunsImage image bytes writable limit old new steps pc ending

@@ -1,5 +1,5 @@
 -- Runs of which each step is shown: to a watcher, with the record of what the step retired.
-use Rattle.std.specs.Prelude.{◌≡◌, ℕ, ◌+◌, ◌≤◌, List, ◌++◌, Bool, true, false, Option, Some, None, Result, Ok, Err}
+use Rattle.std.specs.Prelude.{◌≡◌, ℕ, ◌+◌, ◌≤◌, List, ◌++◌, Bool, true, Option, Some, None, Result, Ok, Err}
 use Rattle.rrs_lib.specs.declared.instruction_executor.InstructionException.{InstructionException}
 use Rattle.rrs_lib.specs.declared.instruction_executor.InstructionException.TheVariants.{EnvironmentCall}
 use Rattle.rrs_lib.specs.Bytes.{ByteMap}
@@ -19,7 +19,7 @@ use Rattle.rrs_linux.specs.declared.Process.{Process}
 use Rattle.rrs_linux.specs.declared.host_writer.HostWriter.{HostWriter}
 use Rattle.rrs_linux.specs.declared.host_side.HostSide.{HostSide}
 use Rattle.rrs_linux.specs.SystemCalls.{Serves}
-use Rattle.rrs_exec.specs.Processes.{Executing, started, heap_of, RunsImage, RunsProcess}
+use Rattle.rrs_exec.specs.Processes.{unit_of, Executing, started, heap_of, RunsImage, RunsProcess}
 
 -- What a step of a program answers: None where the program goes on, the status with which a call
 -- ended it, or the exception.
@@ -44,28 +44,28 @@ pub record SeesStep {V : Type 0} (p : HartProfile) (sees : V → Retired → V �
 -- By the profile of a hart, by what an environment says of a call, and by what a record that is
 -- shown makes of a watcher:
 module _ {E V : Type 0} (p : HartProfile) (serves : Relation E) (sees : V → Retired → V → Type 0)
-    where
-  -- The step of number n is made from s, and what it retired is shown. If it is an ecall, its call
-  -- is served.
-  pub data Turn (n : ℕ) (e : E) (s : Hart) (v : V) (answer : TurnAnswer)
-      (e' : E) (t : Hart) (v' : V) (accesses : List Access) : Type 0 where
-    -- a step that is Ok
-    Stepped :
-        SeesStep p sees n v s (Ok tt) t v' → AccessesOfHart p s accesses
-        → answer ≡ Ok None → e' ≡ e
-        → Turn n e s v answer e' t v' accesses
-    -- an exception that is no ecall
-    Faulted : (fault : InstructionException)
-        → SeesStep p sees n v s (Err fault) t v' → AccessesOfHart p s accesses
-        → ((pc : ℕ) → fault ≡ EnvironmentCall pc → ⊥)
-        → answer ≡ Err fault → e' ≡ e
-        → Turn n e s v answer e' t v' accesses
-    -- an ecall, and its call
-    Called : (pc : ℕ) (end : Option ℕ) (m : Hart) (u : State) (of_step of_call : List Access)
-        → SeesStep p sees n v s (Err (EnvironmentCall pc)) m v' → AccessesOfHart p s of_step
-        → ServesAt serves pc e m.state end e' u of_call → t ≡ hart_with u m.reserved
-        → answer ≡ Ok end → accesses ≡ of_step ++ of_call
-        → Turn n e s v answer e' t v' accesses
+  where
+    -- The step of number n is made from s, and what it retired is shown. If it is an ecall, its call
+    -- is served.
+    pub data Turn (n : ℕ) (e : E) (s : Hart) (v : V) (answer : TurnAnswer)
+        (e' : E) (t : Hart) (v' : V) (accesses : List Access) : Type 0 where
+      -- a step that is Ok
+      Stepped :
+          SeesStep p sees n v s (Ok tt) t v' → AccessesOfHart p s accesses
+          → answer ≡ Ok None → e' ≡ e
+          → Turn n e s v answer e' t v' accesses
+      -- an exception that is no ecall
+      Faulted : (fault : InstructionException)
+          → SeesStep p sees n v s (Err fault) t v' → AccessesOfHart p s accesses
+          → ((pc : ℕ) → fault ≡ EnvironmentCall pc → ⊥)
+          → answer ≡ Err fault → e' ≡ e
+          → Turn n e s v answer e' t v' accesses
+      -- an ecall, and its call
+      Called : (pc : ℕ) (end : Option ℕ) (m : Hart) (u : State) (of_step of_call : List Access)
+          → SeesStep p sees n v s (Err (EnvironmentCall pc)) m v' → AccessesOfHart p s of_step
+          → ServesAt serves pc e m.state end e' u of_call → t ≡ hart_with u m.reserved
+          → answer ≡ Ok end → accesses ≡ of_step ++ of_call
+          → Turn n e s v answer e' t v' accesses
 
 -- And by whether a watcher wants to see more:
 module _ {E V : Type 0} (p : HartProfile) (serves : Relation E) (sees : V → Retired → V → Type 0)
@@ -139,7 +139,7 @@ module _ {R W E V : Type 0} (p : HartProfile) (remaining : R → Option (List �
     pub most : ℕ
     pub within : most ≤ limit
     pub all : wants v' ≡ true → most ≡ limit
-    pub runs : RunsProcess (Executing (Serves remaining contents errors_of) p)
+    pub runs : RunsProcess (Executing (Serves remaining contents errors_of) p) (unit_of p)
         file arguments variables wanted most old new steps pc ending
     pub shown : Shown p (Serves remaining contents errors_of) sees wants
         (record old { heap = heap_of runs.image })

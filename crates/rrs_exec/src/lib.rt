@@ -10,10 +10,11 @@
 //!
 //! [load_process] makes a process of the bytes of an ELF file: its image, and its memory.
 //! [execute_process] runs it and serves its system calls. What that is, is written in
-//! `specs/Processes.antt`: a run of a hart that has extension A, and misaligned loads and stores.
-//! [watch_process] runs a process so too, and shows each step to a [Watcher], as
-//! `specs/Watching.antt` says; it carries out such an instruction by [mend]. Both tell a
-//! [Progress] of the steps, of which their contracts say nothing, and that of [InPieces] all.
+//! `specs/Processes.antt`: a run of a hart with a profile, of which [process_profile] is the usual
+//! one. [watch_process] runs a process so too, and shows each step to a [Watcher], as
+//! `specs/Watching.antt` says. Both tell a [Progress] of the steps, of which their contracts say
+//! nothing, and that of [InPieces] all. [mend] carries out the instruction of a fault of the kit's
+//! step, for a debugger.
 
 #![tactic(auto)]
 
@@ -34,7 +35,7 @@ pub use marks::{PAGE_BYTES, PageRange, Protection, marks_of};
 pub use mending::mend;
 pub use process::{
     DECODED_WORDS, KeptMemory, LoadedProcess, ProcessEnd, WATCHED_WORDS, execute_process,
-    load_process, process_profile, serve_image, started,
+    load_process, process_profile, profile_for, serve_image, started,
 };
 pub use process_memory::ProcessMemory;
 pub use progress::{InPieces, NoProgress, Progress};

@@ -90,13 +90,7 @@ fn swap<M: Memory>(
     let Some(instruction) = decode_atomic(word) else {
         return Err(fault);
     };
-    let answer = execute_atomic(
-        mem,
-        hart,
-        reservation,
-        instruction.row,
-        &instruction.fields,
-    );
+    let answer = execute_atomic(mem, hart, reservation, instruction.row, &instruction.fields);
     go_on(hart, answer)
 }
 

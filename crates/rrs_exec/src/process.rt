@@ -1,12 +1,14 @@
 //! An executable that runs as a process of Linux.
 
-ghost use Rattle.std.specs.Prelude.{◌≡◌, ℕ, Bool, Option, None, Err, map, string_bytes, IfOk, IfErr, IfSome, OnErr};
-ghost use Rattle.rrs_elf.specs.Executables.{IsExecutable};
+ghost use Rattle.std.specs.Prelude.{◌≡◌, ◌↔◌, ◌≤◌, ◌%◌, ℕ, Bool, IsTrue, IsOk, Option, None, Err, length, map, string_bytes, IfOk, IfErr, IfSome, OnErr};
+ghost use Rattle.rrs_elf.specs.Executables.{IsExecutableIn};
+ghost use Rattle.rrs_elf.specs.Headers.{e_flags};
 ghost use Rattle.rrs_exec.specs.Images.{AreLong, memory_refusal};
 ghost use Rattle.rrs_lib.specs.Machine.{state_of};
 ghost use Rattle.rrs_elf.specs.declared.errors.ElfError.{ElfError};
-ghost use Rattle.rrs_elf.specs.Refusals.{first_refusal, checks};
-ghost use Rattle.rrs_exec.specs.Processes.{process_profile, started, Executing, RunsImage, RunsProcess, ServesImage, IsLoaded};
+ghost use Rattle.rrs_elf.specs.Refusals.{first_refusal, checks_in};
+ghost use Rattle.rrs_elf.specs.declared.program_headers.Addresses.TheVariants.{Virtual};
+ghost use Rattle.rrs_exec.specs.Processes.{process_profile, unit_of, started, Executing, RunsImage, RunsProcess, ServesImage, IsLoaded};
 ghost use Rattle.rrs_linux.specs.SystemCalls.{Serves};
 ghost use Rattle.rrs_exec.specs.ProcessMemories.{process_bytes, process_writable};
 
@@ -14,7 +16,7 @@ use crate::image::{Image, ImageError, fill, image_of};
 use crate::process_memory::ProcessMemory;
 use crate::progress::{InPieces, Progress};
 use crate::protected::ProtectedMemory;
-use rrs_elf::Executable;
+use rrs_elf::{Addresses, CodeUnit, ElfError, Executable, has_compressed_code};
 use rrs_fast::{CachedMemory, Ending, Environment, OwnHart, ServedEnd, run_served};
 use rrs_hart::HartProfile;
 use rrs_lib::HartState;
@@ -59,6 +61,18 @@ pub fn process_profile(strict: bool) -> HartProfile
     }
 }
 
+/// The usual profile of the hart for a file: that of [process_profile], and compressed code where the
+/// flags of the file say that it has some.
+pub fn profile_for(file: &[u8], strict: bool) -> HartProfile
+    ensures code { IsTrue result.compressed
+        ↔ ((52 ≤ length file.now) × (e_flags file.now % 2 ≡ 1)) }
+    ensures rest { result ≡ record (process_profile strict) { compressed = result.compressed } }
+{
+    let mut profile = process_profile(strict);
+    profile.compressed = has_compressed_code(file);
+    profile
+}
+
 /// The hart of a process that starts: its pc is the entry, sp is the stack pointer, and all other
 /// registers are 0.
 pub fn started(entry: u32, sp: u32) -> HartState
@@ -80,8 +94,24 @@ pub struct LoadedProcess {
     pub memory: ProcessMemory,
 }
 
+/// Accepts a file as an executable for a hart.
+fn accepted(file: &[u8], profile: HartProfile) -> Result<Executable<'_>, ElfError>
+    ensures accepted { IsOk result ↔ IsExecutableIn (unit_of profile) Virtual file.now }
+    ensures refused { IfErr result (λ error.
+        first_refusal (checks_in (unit_of profile) Virtual file.now) ≡ Err error) }
+    ensures same { IfOk result (λ made. made.file.now ≡ file.now) }
+    ensures placed { IfOk result (λ made. made.addresses ≡ Virtual) }
+{
+    if profile.compressed {
+        Executable::parse_in(file, Addresses::Virtual, CodeUnit::HalfWord)
+    } else {
+        Executable::parse(file)
+    }
+}
+
 /// Loads a file's bytes as an executable with these arguments, of which the first is its name, and
-/// these environment variables, as `NAME=VALUE`, in a memory of at most so many bytes.
+/// these environment variables, as `NAME=VALUE`, in a memory of at most so many bytes, for a hart with
+/// this profile.
 ///
 /// # Errors
 ///
@@ -96,24 +126,28 @@ pub fn load_process(
     arguments: &[String],
     variables: &[String],
     wanted: u64,
+    profile: HartProfile,
 ) -> Result<LoadedProcess, ImageError>
-    ensures loaded { IfOk result (λ process. IsLoaded file.now
+    ensures loaded { IfOk result (λ process. IsLoaded (unit_of profile) file.now
         (map string_bytes arguments.now) (map string_bytes variables.now)
         wanted process.image (process_bytes process.memory)
         (process_writable process.memory)) }
-    ensures ceiling { IsExecutable file.now
+    ensures ceiling { IsExecutableIn (unit_of profile) Virtual file.now
         → IfSome (memory_refusal file.now wanted) (λ error. result ≡ Err error) }
-    ensures refused { (refusal : ElfError) → first_refusal (checks file.now) ≡ Err refusal
+    ensures refused { (refusal : ElfError)
+        → first_refusal (checks_in (unit_of profile) Virtual file.now) ≡ Err refusal
         → IfErr result (λ error. error ≡ ImageError.Elf refusal) }
-    ensures long { IsExecutable file.now → memory_refusal file.now wanted ≡ None
+    ensures long { IsExecutableIn (unit_of profile) Virtual file.now
+        → memory_refusal file.now wanted ≡ None
         → AreLong file.now (map string_bytes arguments.now) (map string_bytes variables.now) wanted
         → result ≡ Err ImageError.LongArguments }
-    ensures otherwise { IsExecutable file.now → memory_refusal file.now wanted ≡ None
+    ensures otherwise { IsExecutableIn (unit_of profile) Virtual file.now
+        → memory_refusal file.now wanted ≡ None
         → (AreLong file.now (map string_bytes arguments.now)
         (map string_bytes variables.now) wanted → ⊥)
         → IfErr result (λ error. error ≡ ImageError.OutOfMemory) }
 {
-    let executable = match Executable::parse(file) {
+    let executable = match accepted(file, profile) {
         Ok(executable) => executable,
         Err(error) => return Err(ImageError::Elf(error)),
     };
@@ -154,23 +188,28 @@ pub fn execute_process<R: Read, W: Write, E: Write, P: Progress>(
     progress: &mut P,
 ) -> Result<ProcessEnd, ImageError>
     ensures executed { IfOk result (λ end. RunsProcess
-        (Executing (Serves R.remaining W.contents E.contents) profile)
+        (Executing (Serves R.remaining W.contents E.contents) profile) (unit_of profile)
         file.now (map string_bytes arguments.now) (map string_bytes variables.now) wanted limit
         environment.old environment.new end.steps end.pc end.ending) }
-    ensures ceiling { IsExecutable file.now
+    ensures ceiling { IsExecutableIn (unit_of profile) Virtual file.now
         → IfSome (memory_refusal file.now wanted) (λ error. result ≡ Err error) }
     ensures kept { OnErr result (environment.new ≡ environment.old) }
-    ensures refused { (refusal : ElfError) → first_refusal (checks file.now) ≡ Err refusal
+    ensures refused { (refusal : ElfError)
+        → first_refusal (checks_in (unit_of profile) Virtual file.now) ≡ Err refusal
         → IfErr result (λ error. error ≡ ImageError.Elf refusal) }
-    ensures long { IsExecutable file.now → memory_refusal file.now wanted ≡ None
+    ensures long { IsExecutableIn (unit_of profile) Virtual file.now
+        → memory_refusal file.now wanted ≡ None
         → AreLong file.now (map string_bytes arguments.now) (map string_bytes variables.now) wanted
         → result ≡ Err ImageError.LongArguments }
-    ensures otherwise { IsExecutable file.now → memory_refusal file.now wanted ≡ None
+    ensures otherwise { IsExecutableIn (unit_of profile) Virtual file.now
+        → memory_refusal file.now wanted ≡ None
         → (AreLong file.now (map string_bytes arguments.now)
         (map string_bytes variables.now) wanted → ⊥)
         → IfErr result (λ error. error ≡ ImageError.OutOfMemory) }
 {
-    let LoadedProcess { image, memory } = load_process(alloc, file, arguments, variables, wanted)?;
+    let LoadedProcess { image, memory } = load_process(
+        alloc, file, arguments, variables, wanted, profile,
+    )?;
     Ok(run_image(image, memory, limit, profile, environment, progress))
 }
 

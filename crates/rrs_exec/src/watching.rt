@@ -1,7 +1,7 @@
 //! Runs of which each step is shown to a watcher.
 
 ghost use Rattle.std.specs.Prelude.{◌≡◌, Bool, None, Err, map, string_bytes, IfOk, IfErr, IfSome, OnErr};
-ghost use Rattle.rrs_elf.specs.Executables.{IsExecutable};
+ghost use Rattle.rrs_elf.specs.Executables.{IsExecutableIn};
 ghost use Rattle.rrs_exec.specs.Images.{AreLong, memory_refusal};
 ghost use Rattle.rrs_lib.specs.Executor.{state_in, KeepsTheRest};
 ghost use Rattle.rrs_hart.specs.Harts.{hart_with};
@@ -10,7 +10,9 @@ ghost use Rattle.rrs_exec.specs.Protection.{protected_bytes, protected_writable,
 ghost use Rattle.rrs_trace.specs.declared.retired.Retired.{Retired};
 ghost use Rattle.rrs_fast.specs.Serving.{MakesSome};
 ghost use Rattle.rrs_elf.specs.declared.errors.ElfError.{ElfError};
-ghost use Rattle.rrs_elf.specs.Refusals.{first_refusal, checks};
+ghost use Rattle.rrs_elf.specs.Refusals.{first_refusal, checks_in};
+ghost use Rattle.rrs_elf.specs.declared.program_headers.Addresses.TheVariants.{Virtual};
+ghost use Rattle.rrs_exec.specs.Processes.{unit_of};
 ghost use Rattle.rrs_exec.specs.Watching.{ServesAt, Turn, IsWatched, WatchesImage, WatchesProcess};
 
 use crate::image::{Image, ImageError};
@@ -261,20 +263,33 @@ pub fn watch_process<R: Read, W: Write, E: Write, V: Watcher, P: Progress>(
         wanted limit
         environment.old environment.new watcher.old watcher.new
         end.steps end.pc end.ending) }
-    ensures ceiling { IsExecutable file.now
+    ensures ceiling { IsExecutableIn (unit_of profile) Virtual file.now
         → IfSome (memory_refusal file.now wanted) (λ error. result ≡ Err error) }
     ensures kept { OnErr result (environment.new ≡ environment.old) }
     ensures unseen { OnErr result (watcher.new ≡ watcher.old) }
-    ensures refused { (refusal : ElfError) → first_refusal (checks file.now) ≡ Err refusal
+    ensures refused { (refusal : ElfError)
+        → first_refusal (checks_in (unit_of profile) Virtual file.now) ≡ Err refusal
         → IfErr result (λ error. error ≡ ImageError.Elf refusal) }
-    ensures long { IsExecutable file.now → memory_refusal file.now wanted ≡ None
+    ensures long { IsExecutableIn (unit_of profile) Virtual file.now
+        → memory_refusal file.now wanted ≡ None
         → AreLong file.now (map string_bytes arguments.now) (map string_bytes variables.now) wanted
         → result ≡ Err ImageError.LongArguments }
-    ensures otherwise { IsExecutable file.now → memory_refusal file.now wanted ≡ None
+    ensures otherwise { IsExecutableIn (unit_of profile) Virtual file.now
+        → memory_refusal file.now wanted ≡ None
         → (AreLong file.now (map string_bytes arguments.now)
         (map string_bytes variables.now) wanted → ⊥)
         → IfErr result (λ error. error ≡ ImageError.OutOfMemory) }
 {
-    let LoadedProcess { image, memory } = load_process(alloc, file, arguments, variables, wanted)?;
-    Ok(watch_image(image, memory, limit, profile, environment, watcher, progress))
+    let LoadedProcess { image, memory } = load_process(
+        alloc, file, arguments, variables, wanted, profile,
+    )?;
+    Ok(watch_image(
+        image,
+        memory,
+        limit,
+        profile,
+        environment,
+        watcher,
+        progress,
+    ))
 }

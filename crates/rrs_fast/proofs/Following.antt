@@ -12,7 +12,7 @@ use Rattle.rrs_lib.specs.Words.{word}
 use Rattle.rrs_lib.specs.Machine.{State, with_pc}
 use Rattle.rrs_lib.specs.Steps.{RunUntil}
 use Rattle.rrs_lib.specs.Accesses.{Access}
-use Rattle.rrs_hart.specs.Harts.{Hart, hart_with, no_layers, HartRun}
+use Rattle.rrs_hart.specs.Harts.{Hart, hart_with, no_layers}
 use Rattle.rrs_hart.proofs.HartRuns.{HartRun-unique, alone_run}
 use Rattle.rrs_fast.specs.Serving.{Relation, EndsBy, Called, HartServed, Served, Last, Exits, GoesOn, resumed}
 

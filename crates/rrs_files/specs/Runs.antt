@@ -2,7 +2,8 @@
 use Rattle.std.specs.Prelude.{◌≡◌, ℕ, Bool, List, Option}
 use Rattle.rrs_lib.specs.Bytes.{ByteMap}
 use Rattle.rrs_exec.specs.declared.image.Image.{Image}
-use Rattle.rrs_exec.specs.Processes.{Executing, IsLoaded, ServesImage, heap_of}
+use Rattle.rrs_exec.specs.Processes.{unit_of, Executing, IsLoaded, ServesImage, heap_of}
+use Rattle.rrs_hart.specs.declared.profile.HartProfile.{HartProfile}
 use Rattle.rrs_fast.specs.declared.serving.Ending.{Ending}
 use Rattle.rrs_fast.specs.Serving.{Relation}
 use Rattle.rrs_linux.specs.declared.Process.{Process}
@@ -15,20 +16,20 @@ use Rattle.rrs_files.specs.Calls.{ServesFiles}
 use Rattle.rrs_files.specs.Events.{Did}
 
 -- From an image the machine runs with these files, and with what serves the other calls.
-pub record RunsFilesBelow {P F : Type 0} (serves : Relation P) (did : Did F) (strict : Bool)
+pub record RunsFilesBelow {P F : Type 0} (serves : Relation P) (did : Did F) (p : HartProfile)
     (image : Image) (bytes : ByteMap) (writable : ℕ → Bool) (limit : ℕ) (process : P)
     (files : Files F) (steps pc : ℕ) (ending : Ending) : Type 0 where
   pub first : WithFiles P F
   pub last : WithFiles P F
   pub begins : first.process.now ≡ process
   pub has : first.files ≡ files
-  pub runs : ServesImage (Executing (ServesFiles serves did) strict) image bytes writable limit
+  pub runs : ServesImage (Executing (ServesFiles serves did) p) image bytes writable limit
       first last steps pc ending
 
 -- By what is known of the environment's reader and writers, by what a folder says of a call, and by
--- whether misaligned addresses are strict:
+-- the profile of the hart:
 module _ {R W E F : Type 0} (remaining : R → Option (List ℕ)) (contents : W → Option (List ℕ))
-    (errors_of : E → Option (List ℕ)) (did : Did F) (strict : Bool) where
+    (errors_of : E → Option (List ℕ)) (did : Did F) (p : HartProfile) where
   -- From an image the machine runs, as rrs_exec's `RunsImage` says, and its system calls are
   -- served: those for files by the files, and the others by the process.
   pub record RunsImageWithFiles (image : Image) (bytes : ByteMap) (writable : ℕ → Bool) (limit : ℕ)
@@ -37,7 +38,7 @@ module _ {R W E F : Type 0} (remaining : R → Option (List ℕ)) (contents : W 
     pub first : WithFiles (Process R (HostWriter W) (HostWriter E) HostSide) F
     pub begins : first.process.now ≡ record old.process.now { heap = heap_of image }
     pub has : first.files ≡ old.files
-    pub runs : ServesImage (Executing (ServesFiles (Serves remaining contents errors_of) did) strict)
+    pub runs : ServesImage (Executing (ServesFiles (Serves remaining contents errors_of) did) p)
         image bytes writable limit first new steps pc ending
 
   -- A process is loaded, and runs so from its entry.
@@ -47,7 +48,7 @@ module _ {R W E F : Type 0} (remaining : R → Option (List ℕ)) (contents : W 
     pub image : Image
     pub bytes : ByteMap
     pub writable : ℕ → Bool
-    pub loaded : IsLoaded file arguments variables wanted image bytes writable
+    pub loaded : IsLoaded (unit_of p) file arguments variables wanted image bytes writable
     pub runs : RunsImageWithFiles image bytes writable limit old new steps pc ending
 
   -- It runs so from a process and these files.

@@ -1,9 +1,11 @@
 //! An executable that runs as a process of Linux with files.
 
 ghost use Rattle.std.specs.Prelude.{◌≡◌, None, Err, map, string_bytes, IfOk, IfErr, IfSome, OnErr};
-ghost use Rattle.rrs_elf.specs.Executables.{IsExecutable};
+ghost use Rattle.rrs_elf.specs.Executables.{IsExecutableIn};
 ghost use Rattle.rrs_elf.specs.declared.errors.ElfError.{ElfError};
-ghost use Rattle.rrs_elf.specs.Refusals.{first_refusal, checks};
+ghost use Rattle.rrs_elf.specs.Refusals.{first_refusal, checks_in};
+ghost use Rattle.rrs_elf.specs.declared.program_headers.Addresses.TheVariants.{Virtual};
+ghost use Rattle.rrs_exec.specs.Processes.{unit_of};
 ghost use Rattle.rrs_exec.specs.Images.{AreLong, memory_refusal};
 ghost use Rattle.rrs_exec.specs.ProcessMemories.{process_bytes, process_writable};
 ghost use Rattle.rrs_files.specs.Runs.{RunsBelow, RunsFilesBelow, RunsImageWithFiles, RunsWithFiles};
@@ -16,6 +18,7 @@ use rrs_exec::{
     serve_image,
 };
 use rrs_fast::Environment;
+use rrs_hart::HartProfile;
 use rrs_linux::{Heap, Linux};
 use std::alloc::Global;
 use std::io::{Read, Write};
@@ -34,29 +37,34 @@ pub fn execute_with_files<R: Read, W: Write, E: Write, F: Folder, P: Progress>(
     variables: &[String],
     wanted: u64,
     limit: u64,
-    strict: bool,
+    profile: HartProfile,
     environment: &mut WithFiles<'_, Linux<R, W, E>, F>,
     progress: &mut P,
 ) -> Result<ProcessEnd, ImageError>
     ensures executed { IfOk result (λ end. RunsWithFiles R.remaining W.contents E.contents F.did
-        strict file.now (map string_bytes arguments.now) (map string_bytes variables.now)
+        profile file.now (map string_bytes arguments.now) (map string_bytes variables.now)
         wanted limit
         environment.old environment.new end.steps end.pc end.ending) }
-    ensures ceiling { IsExecutable file.now
+    ensures ceiling { IsExecutableIn (unit_of profile) Virtual file.now
         → IfSome (memory_refusal file.now wanted) (λ error. result ≡ Err error) }
     ensures kept { OnErr result (environment.new ≡ environment.old) }
-    ensures refused { (refusal : ElfError) → first_refusal (checks file.now) ≡ Err refusal
+    ensures refused { (refusal : ElfError)
+        → first_refusal (checks_in (unit_of profile) Virtual file.now) ≡ Err refusal
         → IfErr result (λ error. error ≡ ImageError.Elf refusal) }
-    ensures long { IsExecutable file.now → memory_refusal file.now wanted ≡ None
+    ensures long { IsExecutableIn (unit_of profile) Virtual file.now
+        → memory_refusal file.now wanted ≡ None
         → AreLong file.now (map string_bytes arguments.now) (map string_bytes variables.now) wanted
         → result ≡ Err ImageError.LongArguments }
-    ensures otherwise { IsExecutable file.now → memory_refusal file.now wanted ≡ None
+    ensures otherwise { IsExecutableIn (unit_of profile) Virtual file.now
+        → memory_refusal file.now wanted ≡ None
         → (AreLong file.now (map string_bytes arguments.now)
         (map string_bytes variables.now) wanted → ⊥)
         → IfErr result (λ error. error ≡ ImageError.OutOfMemory) }
 {
-    let LoadedProcess { image, memory } = load_process(alloc, file, arguments, variables, wanted)?;
-    Ok(run_image(image, memory, limit, strict, environment, progress))
+    let LoadedProcess { image, memory } = load_process(
+        alloc, file, arguments, variables, wanted, profile,
+    )?;
+    Ok(run_image(image, memory, limit, profile, environment, progress))
 }
 
 /// Runs a file's bytes as `execute_process` of `rrs_exec` does, with these files. They are closed
@@ -74,31 +82,36 @@ pub fn execute_below<R: Read, W: Write, E: Write, F: Folder + Drop, P: Progress>
     variables: &[String],
     wanted: u64,
     limit: u64,
-    strict: bool,
+    profile: HartProfile,
     process: &mut Linux<R, W, E>,
     files: Files<F>,
     progress: &mut P,
 ) -> Result<ProcessEnd, ImageError>
     ensures executed { IfOk result (λ end. RunsBelow R.remaining W.contents E.contents F.did
-        strict file.now (map string_bytes arguments.now) (map string_bytes variables.now)
+        profile file.now (map string_bytes arguments.now) (map string_bytes variables.now)
         wanted limit
         process.old files end.steps end.pc end.ending) }
-    ensures ceiling { IsExecutable file.now
+    ensures ceiling { IsExecutableIn (unit_of profile) Virtual file.now
         → IfSome (memory_refusal file.now wanted) (λ error. result ≡ Err error) }
     ensures kept { OnErr result (process.new ≡ process.old) }
-    ensures refused { (refusal : ElfError) → first_refusal (checks file.now) ≡ Err refusal
+    ensures refused { (refusal : ElfError)
+        → first_refusal (checks_in (unit_of profile) Virtual file.now) ≡ Err refusal
         → IfErr result (λ error. error ≡ ImageError.Elf refusal) }
-    ensures long { IsExecutable file.now → memory_refusal file.now wanted ≡ None
+    ensures long { IsExecutableIn (unit_of profile) Virtual file.now
+        → memory_refusal file.now wanted ≡ None
         → AreLong file.now (map string_bytes arguments.now) (map string_bytes variables.now) wanted
         → result ≡ Err ImageError.LongArguments }
-    ensures otherwise { IsExecutable file.now → memory_refusal file.now wanted ≡ None
+    ensures otherwise { IsExecutableIn (unit_of profile) Virtual file.now
+        → memory_refusal file.now wanted ≡ None
         → (AreLong file.now (map string_bytes arguments.now)
         (map string_bytes variables.now) wanted → ⊥)
         → IfErr result (λ error. error ≡ ImageError.OutOfMemory) }
 {
-    let LoadedProcess { image, memory } = load_process(alloc, file, arguments, variables, wanted)?;
+    let LoadedProcess { image, memory } = load_process(
+        alloc, file, arguments, variables, wanted, profile,
+    )?;
     process.heap = Heap::new(image.layout.heap_start, image.layout.heap_end);
-    Ok(run_below(image, memory, limit, strict, process, files, progress))
+    Ok(run_below(image, memory, limit, profile, process, files, progress))
 }
 
 /// Runs a process whose memory is filled, and whose heap is set, with these files.
@@ -106,17 +119,17 @@ fn run_below<S: Environment, F: Folder + Drop, P: Progress>(
     image: Image,
     memory: ProcessMemory,
     limit: u64,
-    strict: bool,
+    profile: HartProfile,
     process: &mut S,
     files: Files<F>,
     progress: &mut P,
 ) -> ProcessEnd
-    ensures { RunsFilesBelow S.serves F.did strict image
+    ensures { RunsFilesBelow S.serves F.did profile image
         (process_bytes memory) (process_writable memory)
         limit process.old files result.steps result.pc result.ending }
 {
     let mut with_files = WithFiles { process, files };
-    serve_image(image, memory, limit, strict, &mut with_files, progress)
+    serve_image(image, memory, limit, profile, &mut with_files, progress)
 }
 
 /// Runs a process whose memory is filled.
@@ -124,14 +137,14 @@ fn run_image<R: Read, W: Write, E: Write, F: Folder, P: Progress>(
     image: Image,
     memory: ProcessMemory,
     limit: u64,
-    strict: bool,
+    profile: HartProfile,
     environment: &mut WithFiles<'_, Linux<R, W, E>, F>,
     progress: &mut P,
 ) -> ProcessEnd
-    ensures { RunsImageWithFiles R.remaining W.contents E.contents F.did strict image
+    ensures { RunsImageWithFiles R.remaining W.contents E.contents F.did profile image
         (process_bytes memory) (process_writable memory) limit
         environment.old environment.new result.steps result.pc result.ending }
 {
     environment.process.heap = Heap::new(image.layout.heap_start, image.layout.heap_end);
-    serve_image(image, memory, limit, strict, environment, progress)
+    serve_image(image, memory, limit, profile, environment, progress)
 }

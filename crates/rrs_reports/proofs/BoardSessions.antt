@@ -1,6 +1,6 @@
 -- What a watcher of a board was shown is a list of records, and what each of them makes of the watcher
 -- holds of it. And a session that is watched is one that is not.
-use Rattle.std.proofs.Common.{◌≡◌, ℕ, zero, suc, ◌+◌, ◌-◌, ◌≤◌, List, [], ◌∷◌, ◌++◌, Bool, true, false, Option, Some, None, refl, subst}
+use Rattle.std.proofs.Common.{◌≡◌, ℕ, ◌+◌, ◌-◌, List, [], ◌∷◌, ◌++◌, Bool, true, false, Option, Some, None, refl, subst}
 use Rattle.rrs_board.specs.declared.board.Board.{Board}
 use Rattle.rrs_board.specs.declared.effects.BoardEvent.{BoardEvent}
 use Rattle.rrs_board.specs.declared.runs.RecordedStep.{RecordedStep}
@@ -9,7 +9,7 @@ use Rattle.rrs_board.specs.Boards.{BoardStepped, QuietSteps, BoardRun}
 use Rattle.rrs_board.specs.WatchedBoards.{IsShown, QuietlyShown, NoStep, OneMore, watched_runs}
 use Rattle.rrs_board.specs.declared.asking.Asking.{Asking}
 use Rattle.rrs_board.specs.Inputs.{Listener}
-use Rattle.rrs_board.specs.Terminals.{Runner, plain_runs, Session, Served, ServedAndRun, EndedSession, EndsSession}
+use Rattle.rrs_board.specs.Terminals.{plain_runs, Session, EndedSession}
 use Rattle.rrs_reports.specs.Records.{keeps, wants_all}
 use Rattle.rrs_reports.specs.BoardRecords.{listing, BoardWithRecords}
 

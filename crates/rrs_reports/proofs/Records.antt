@@ -1,5 +1,5 @@
 -- What a watcher was shown is a list of records, and what each of them makes of the watcher holds of it.
-use Rattle.std.proofs.Common.{◌≡◌, ℕ, List, [], ◌∷◌, ◌++◌, Bool, true, false, Option, Some, None, Ok, Err, refl, subst}
+use Rattle.std.proofs.Common.{◌≡◌, ℕ, List, [], ◌∷◌, ◌++◌, Bool, true, Option, Some, None, Ok, Err, refl, subst}
 use Rattle.rrs_lib.specs.Steps.{StepAnswer}
 use Rattle.rrs_lib.specs.Accesses.{Access}
 use Rattle.rrs_lib.specs.declared.instruction_executor.InstructionException.TheVariants.{EnvironmentCall}

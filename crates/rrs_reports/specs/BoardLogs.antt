@@ -2,13 +2,13 @@
 -- the texts of instructions: beside what the log of a process has, the privilege mode of each
 -- instruction, the CSR that it wrote, and exceptions and interrupts. An instruction that raises an
 -- exception has no line of its own.
-use Rattle.std.specs.Prelude.{◌≡◌, ℕ, ◌==◌, if◌then◌else◌, Bool, true, false, List, [], ◌∷◌, ◌++◌, map, codes, Option, Some, None}
+use Rattle.std.specs.Prelude.{ℕ, ◌==◌, if◌then◌else◌, Bool, true, false, List, [], ◌∷◌, ◌++◌, map, codes, Option, Some, None}
 use Rattle.std.specs.Fmt.{decimal}
 use Rattle.std.specs.Io.KnownBytes.{Appends}
 use Rattle.rrs_lib.specs.Texts.{hexadecimal}
 use Rattle.rrs_words.specs.SystemTexts.{csr_name}
 use Rattle.rrs_machine.specs.declared.machine.MachineAnswer.{MachineAnswer}
-use Rattle.rrs_machine.specs.declared.machine.MachineAnswer.TheVariants.{Retired, Waiting, Raised, Interrupted}
+use Rattle.rrs_machine.specs.declared.machine.MachineAnswer.TheVariants.{Raised, Interrupted}
 use Rattle.rrs_machine.specs.declared.retired.CsrAccess.{CsrAccess}
 use Rattle.rrs_machine.specs.declared.retired.MachineRetired.{MachineRetired}
 use Rattle.rrs_machine.specs.declared.traps.Exception.{Exception}

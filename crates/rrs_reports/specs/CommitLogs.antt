@@ -1,7 +1,7 @@
 -- The commit log of Spike, the RISC-V ISA simulator: a line for each instruction that retires, with
 -- the hart, the privilege mode, the pc and the word, the register that it wrote with its value, and
 -- its load or store. Each line ends with a line feed, which is 10.
-use Rattle.std.specs.Prelude.{◌≡◌, ℕ, ◌==◌, ◌&&◌, nat_le, nat_lt, if◌then◌else◌, Bool, true, false, List, [], ◌∷◌, ◌++◌, map, codes, Option, Some, None}
+use Rattle.std.specs.Prelude.{◌≡◌, ℕ, ◌%◌, ◌==◌, ◌&&◌, nat_le, nat_lt, if◌then◌else◌, Bool, true, false, List, [], ◌∷◌, ◌++◌, map, codes, Option, Some, None}
 use Rattle.std.specs.Fmt.{decimal}
 use Rattle.std.specs.Io.KnownBytes.{Appends}
 use Rattle.rrs_lib.specs.Texts.{hexadecimal}
@@ -51,6 +51,10 @@ store_text m =
     else codes " mem 0x" ++ hexadecimal 8 m.addr
     ++ codes " 0x" ++ hexadecimal (store_digits m.wmask) m.wdata
 
+-- the digits of a word: half as many where it is compressed, and so its low bits are not 11
+abbrev pub word_digits : ℕ → ℕ
+word_digits word = if word % 4 == 3 then 8 else 4
+
 -- the digit of a privilege mode: 3 is machine mode, and else it is user mode
 abbrev pub mode_text : ℕ → List ℕ
 mode_text mode = if mode == 3 then codes "3" else codes "0"
@@ -59,7 +63,7 @@ mode_text mode = if mode == 3 then codes "3" else codes "0"
 abbrev pub committed_text : ℕ → ℕ → Retired → List ℕ
 committed_text mode word r =
     codes "core   0: " ++ mode_text mode ++ codes " 0x" ++ hexadecimal 8 r.pc_rdata
-    ++ codes " (0x" ++ hexadecimal 8 word ++ codes ")" ++ written_text r.rd_addr r.rd_wdata
+    ++ codes " (0x" ++ hexadecimal (word_digits word) word ++ codes ")" ++ written_text r.rd_addr r.rd_wdata
 
 -- and what ends it
 abbrev pub access_text : MemoryAccess → List ℕ

@@ -8,7 +8,7 @@ use Rattle.rrs_linux.specs.declared.host_side.HostSide.{HostSide}
 use Rattle.rrs_linux.specs.SystemCalls.{Serves}
 use Rattle.rrs_hart.specs.declared.profile.HartProfile.{HartProfile}
 use Rattle.rrs_hart.specs.Harts.{hart_with}
-use Rattle.rrs_exec.specs.Processes.{Executing, heap_of, RunsProcess}
+use Rattle.rrs_exec.specs.Processes.{unit_of, Executing, heap_of, RunsProcess}
 use Rattle.rrs_exec.specs.Watching.{Shown, start_in}
 
 -- a list to which what is shown is appended, and which wants all of it
@@ -25,7 +25,7 @@ pub record RunsWithRecords {R W E : Type 0} (p : HartProfile) (remaining : R →
     (file : List ℕ) (arguments variables : List (List ℕ)) (wanted limit : ℕ)
     (old new : Process R (HostWriter W) (HostWriter E) HostSide)
     (steps pc : ℕ) (ending : Ending) (records : List Retired) : Type 0 where
-  pub runs : RunsProcess (Executing (Serves remaining contents errors_of) p)
+  pub runs : RunsProcess (Executing (Serves remaining contents errors_of) p) (unit_of p)
       file arguments variables wanted limit old new steps pc ending
   pub shown : Shown p (Serves remaining contents errors_of) keeps wants_all
       (record old { heap = heap_of runs.image })

@@ -2,7 +2,7 @@
 
 ghost use Rattle.std.specs.Prelude.{◌≡◌, ◌+◌, ◌≤◌, ◌++◌, [], length, codes, map, string_bytes, IfOk, OnErr};
 ghost use Rattle.rrs_lib.specs.Texts.{hexadecimal};
-ghost use Rattle.rrs_reports.specs.CommitLogs.{committed, written_text, store_digits, mode_text, committed_text, access_text, commit_text, TracesProcess};
+ghost use Rattle.rrs_reports.specs.CommitLogs.{committed, written_text, store_digits, word_digits, mode_text, committed_text, access_text, commit_text, TracesProcess};
 
 use arrayvec::ArrayString;
 use itoa::Buffer;
@@ -82,6 +82,14 @@ fn digits_of(mask: u8) -> usize
     }
 }
 
+/// How many digits the word of an instruction has: half as many where it is compressed.
+fn word_digits(word: u32) -> usize
+    ensures value { result ≡ word_digits word }
+    ensures small { result ≤ 8 }
+{
+    if word % 4 == 3 { 8 } else { 4 }
+}
+
 /// The digit of a privilege mode.
 #[inline(always)]
 fn mode_digit(mode: u8) -> &'static str
@@ -101,7 +109,7 @@ pub(crate) fn push_committed(line: &mut CommitLine, mode: u8, word: u32, retired
     line.push_str("core   0: ");
     line.push_str(mode_digit(mode));
     push_word(line, " 0x", 8, retired.pc_rdata);
-    push_word(line, " (0x", 8, word);
+    push_word(line, " (0x", word_digits(word), word);
     line.push_str(")");
     push_written(line, retired.rd_addr, retired.rd_wdata);
 }

@@ -1,6 +1,6 @@
 //! What a run of an executable covered: how often each word and each function was executed.
 
-ghost use Rattle.std.specs.Prelude.{◌≡◌, ◌≢◌, ℕ, true, Some, map, replicate, string_bytes, IfOk, OnErr};
+ghost use Rattle.std.specs.Prelude.{◌≡◌, ◌≢◌, ℕ, true, false, Some, map, replicate, string_bytes, IfOk, OnErr};
 ghost use Rattle.std.specs.Bool.{OnTrue, OnFalse};
 ghost use Rattle.rrs_hart.specs.declared.profile.HartProfile.{HartProfile as TheProfile};
 ghost use Rattle.rrs_hart.specs.Harts.{Hart, HartStep};
@@ -12,14 +12,15 @@ ghost use Rattle.rrs_reports.specs.Coverages.{Counts, CoversProcess, is_step, wo
 
 use crate::calls::Calls;
 use crate::code::Code;
-use crate::commit_log::ECALL;
+use crate::commit_log::{ECALL, committed_word};
 use crate::coverage::Coverage;
 use rrs_exec::{ImageError, KeptMemory, ProcessEnd, Progress, Watcher, watch_process};
-use rrs_hart::{HartProfile, step_hart};
+use rrs_fast::step_layers_cached;
+use rrs_hart::HartProfile;
 use rrs_lib::instruction_executor::{InstructionException, InstructionExecutor};
 use rrs_lib::{MemAccessSize, Memory};
 use rrs_linux::Linux;
-use rrs_trace::Retired;
+use rrs_trace::{Retired, step_hart_retired};
 use std::alloc::{AllocError, Global};
 use std::io::{Read, Write};
 
@@ -105,6 +106,16 @@ impl Profile<'_, '_> {
         self.calls.add(self.code, number, pc, owner, word);
     }
 
+    /// Counts the step of a record, if it is of one.
+    fn count_record(&mut self, retired: &Retired)
+        ensures { Counts self.old.coverage retired.now self.new.coverage }
+    {
+        match committed_word(retired) {
+            Some(_) => self.count(retired.order, retired.pc_rdata, 0),
+            None => {}
+        }
+    }
+
     /// Counts the step of this number from one pc to another, if it is no fault.
     #[inline(always)]
     fn see(
@@ -115,7 +126,8 @@ impl Profile<'_, '_> {
         next: u32,
         answer: Result<(), InstructionException>,
     )
-        ensures counts { (p : TheProfile) (n : ℕ) (s t : Hart) (r : Retired) → s.state.pc ≡ pc
+        ensures counts { (p : TheProfile) (n : ℕ) (s t : Hart) (r : Retired)
+            → p.compressed ≡ false → s.state.pc ≡ pc
             → t.state.bytes ≡ protected_bytes memory.old → HartStep p s t answer
             → HartRetires p n s t answer r → Counts self.old.coverage r self.new.coverage }
         ensures kept { memory.new ≡ memory.old }
@@ -141,7 +153,8 @@ impl Watcher for Profile<'_, '_> {
 
     ghost wants = { λ profile. true };
 
-    /// No record is made. The word of a step is read where it jumps, and after an exception.
+    /// No record is made of a hart that fetches words. The word of a step is read where it jumps, and
+    /// after an exception.
     #[inline(always)]
     fn watch_step(
         &mut self,
@@ -150,8 +163,13 @@ impl Watcher for Profile<'_, '_> {
         profile: HartProfile,
         number: u64,
     ) -> Result<(), InstructionException> {
+        if profile.compressed {
+            let (answer, retired) = step_hart_retired(executor, reservation, profile, number);
+            self.count_record(&retired);
+            return answer;
+        }
         let pc = executor.hart_state.pc;
-        let answer = step_hart(executor, reservation, profile);
+        let answer = step_layers_cached(executor, reservation, profile);
         self.see(executor.mem, number, pc, executor.hart_state.pc, answer);
         answer
     }

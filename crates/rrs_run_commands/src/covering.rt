@@ -11,7 +11,7 @@ use crate::requests::Request;
 use crate::variables::variables_of;
 use rrs_board::Board;
 use rrs_elf::Addresses;
-use rrs_exec::Progress;
+use rrs_exec::{Progress, process_profile};
 use rrs_fast::Ending;
 use rrs_linux::Linux;
 use rrs_reports::{
@@ -123,6 +123,7 @@ fn cover_code<'a, H: Files + Eprint + AllocGlobal, R: Read, W: Write, E: Write, 
         &variables,
         memory_for(file, request.memory),
         request.limit,
+        process_profile(request.is_strict),
         environment,
         progress,
     );

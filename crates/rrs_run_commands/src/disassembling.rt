@@ -2,7 +2,7 @@
 
 use crate::files::{buffered, read_program, unwritten};
 use crate::refusal::{Refusal, no_executable, out_of_memory};
-use rrs_elf::{Addresses, CodeUnit, ElfError, Executable};
+use rrs_elf::{Addresses, CodeUnit, Executable, has_compressed_code};
 use rrs_reports::{Code, write_disassembly};
 use std::alloc::{AllocError, Global};
 use std::io::{self, Write};
@@ -24,14 +24,14 @@ pub(crate) fn code_of<'a, 'f>(
 }
 
 /// The same of an executable whose instructions lie in such units.
-fn code_in_units<'a, 'f>(
+pub(crate) fn code_in_units<'a, 'f>(
     alloc: Global,
     path: &'a str,
     file: &'f [u8],
     addresses: Addresses,
     unit: CodeUnit,
 ) -> Result<Code<'f>, Refusal<'a>> {
-    let program = match Executable::parse_at(file, addresses) {
+    let program = match Executable::parse_in(file, addresses, unit) {
         Ok(program) => program,
         Err(error) => return Err(no_executable(path, file, error)),
     };
@@ -59,22 +59,13 @@ pub(crate) fn flushed<'a, W: Write>(
     }
 }
 
-/// Makes the file of an executable with compressed code one that `Executable` accepts, and says what
-/// its instructions lie in.
-///
-/// Nothing that a disassembly shows is changed: the flag of such code in `e_flags` is cleared, and
-/// so is bit 1 of the entry, which may be any even address there.
-fn without_flag(file: &mut [u8]) -> CodeUnit {
-    let Err(ElfError::CompressedCode) = Executable::parse(file) else {
-        return CodeUnit::Word;
-    };
-    if let Some(flags) = file.get_mut(36) {
-        *flags &= 0xfe;
+/// What the instructions of an executable lie in, by its flags.
+pub(crate) fn unit_in(file: &[u8]) -> CodeUnit {
+    if has_compressed_code(file) {
+        CodeUnit::HalfWord
+    } else {
+        CodeUnit::Word
     }
-    if let Some(entry) = file.get_mut(24) {
-        *entry &= 0xfd;
-    }
-    CodeUnit::HalfWord
 }
 
 /// Writes the disassembly of an executable, also of one with compressed code.
@@ -87,8 +78,8 @@ pub fn disassemble_file<'a, H: Files + AllocGlobal, O: Write>(
     path: &'a str,
     out: &mut O,
 ) -> Result<(), Refusal<'a>> {
-    let mut file = read_program(rt, path)?;
-    let unit = without_flag(&mut file);
+    let file = read_program(rt, path)?;
+    let unit = unit_in(&file);
     let code = code_in_units(rt.alloc(), path, &file, Addresses::Virtual, unit)?;
     let mut out = buffered(rt.alloc(), out)?;
     let written = write_disassembly(&mut out, path, &code);

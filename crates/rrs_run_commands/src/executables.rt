@@ -1,7 +1,9 @@
 //! Executables as the subcommands take them: read, run, and what is told where they fail.
 
 ghost use Rattle.std.specs.Prelude.{◌≡◌, ◌↔◌, None, IsTrue, IfOk, IfSome, max, min};
-ghost use Rattle.rrs_elf.specs.Executables.{IsExecutable};
+ghost use Rattle.rrs_elf.specs.Executables.{IsExecutableIn};
+ghost use Rattle.rrs_elf.specs.declared.code_units.CodeUnit.TheVariants.{HalfWord};
+ghost use Rattle.rrs_elf.specs.declared.program_headers.Addresses.TheVariants.{Virtual};
 ghost use Rattle.rrs_exec.specs.Images.{needed_of};
 ghost use Rattle.rrs_files.specs.Requests.{IsOfFiles};
 ghost use Rattle.rrs_run_commands.specs.Execution.{is_overrun};
@@ -12,8 +14,8 @@ use crate::options::{MOST_UNASKED, Task, usual_memory};
 use crate::refusal::{Refusal, no_image, out_of_memory};
 use crate::requests::Request;
 use crate::variables::variables_of;
-use rrs_elf::{Addresses, Executable};
-use rrs_exec::{ImageError, ProcessEnd, Progress, execute_process, needed_memory};
+use rrs_elf::{Addresses, CodeUnit, Executable, has_compressed_code};
+use rrs_exec::{ImageError, ProcessEnd, Progress, execute_process, needed_memory, profile_for};
 use rrs_fast::Ending;
 use rrs_files::{Descriptors, Files as ProgramFiles, HostFolder, execute_below};
 use rrs_lib::instruction_executor::InstructionException;
@@ -26,14 +28,14 @@ use std::rt::Files;
 /// as many as it needs, but no more than 1 GiB.
 pub fn memory_for(file: &[u8], asked: Option<u64>) -> u64
     ensures asked { IfSome asked (λ bytes. result ≡ bytes) }
-    ensures unasked { asked ≡ None → IsExecutable file.now
+    ensures unasked { asked ≡ None → IsExecutableIn HalfWord Virtual file.now
         → result ≡ max (usual_memory Task.Execute) (min (needed_of file.now) most_unasked) }
 {
     if let Some(bytes) = asked {
         return bytes;
     }
     let usual = usual_memory(Task::Execute);
-    match Executable::parse(file) {
+    match Executable::parse_in(file, Addresses::Virtual, CodeUnit::HalfWord) {
         Ok(executable) => usual.max(needed_memory(&executable).min(MOST_UNASKED)),
         Err(_) => usual,
     }
@@ -82,6 +84,7 @@ fn execute_bytes<'a, H: Files + AllocGlobal, R: Read, W: Write, E: Write, P: Pro
     progress: &mut P,
 ) -> Result<Result<ProcessEnd, ImageError>, Refusal<'a>> {
     let wanted = memory_for(file, request.memory);
+    let profile = profile_for(file, request.is_strict);
     let Ok(variables) = variables_of(rt.alloc(), request) else {
         return Err(out_of_memory());
     };
@@ -93,7 +96,7 @@ fn execute_bytes<'a, H: Files + AllocGlobal, R: Read, W: Write, E: Write, P: Pro
             &variables,
             wanted,
             request.limit,
-            request.is_strict,
+            profile,
             environment,
             progress,
         ));
@@ -106,7 +109,7 @@ fn execute_bytes<'a, H: Files + AllocGlobal, R: Read, W: Write, E: Write, P: Pro
         &variables,
         wanted,
         request.limit,
-        request.is_strict,
+        profile,
         environment,
         files,
         progress,
@@ -162,7 +165,7 @@ pub fn tell<H: Eprint>(rt: &H, program: &str, file: &[u8], heap: Heap, end: &Pro
         Ending::Fault(fault) => {
             let place = place_of(file, Addresses::Virtual, pc);
             tell_place(rt, program, place, pc, "", steps);
-            tell_fault(rt, program, heap, fault);
+            tell_fault(rt, program, file, heap, fault);
         }
     }
 }
@@ -187,13 +190,20 @@ pub(crate) fn tell_place<H: Eprint>(
     };
 }
 
-/// Says what may have led to a fault: no code, compressed code, or a stack that ran over.
-fn tell_fault<H: Eprint>(rt: &H, program: &str, heap: Heap, fault: &InstructionException) {
+/// Says what may have led to a fault: no code, compressed code in a file whose flags have none, or a
+/// stack that ran over.
+fn tell_fault<H: Eprint>(
+    rt: &H,
+    program: &str,
+    file: &[u8],
+    heap: Heap,
+    fault: &InstructionException,
+) {
     if let InstructionException::IllegalInstruction(_, word) = fault {
         let half = word % 65536;
         if half == 0 {
             let _ = eprintln!(rt; "{program}: no code is there; a program ends by a call of exit");
-        } else if half % 4 != 3 {
+        } else if half % 4 != 3 && !has_compressed_code(file) {
             let _ = eprintln!(rt; "{program}: 0x{half:04x} is compressed code");
         }
     }
@@ -222,7 +232,7 @@ fn is_overrun(heap: Heap, fault: &InstructionException) -> bool
 /// The function of an executable in which an address lies, or else the nearest before it, and how
 /// far after its first instruction it is. Its segments are at these of their addresses.
 pub(crate) fn place_of(file: &[u8], addresses: Addresses, address: u32) -> Option<(&[u8], u32)> {
-    let Ok(executable) = Executable::parse_at(file, addresses) else {
+    let Ok(executable) = Executable::parse_in(file, addresses, CodeUnit::HalfWord) else {
         return None;
     };
     let Ok(Some(symbols)) = executable.symbols() else {

@@ -9,10 +9,12 @@ ghost use Rattle.rrs_run_commands.specs.Execution.{ExecutesProgram};
 use crate::executables::tell;
 use crate::files::read_program;
 use crate::refusal::{Refusal, unloaded};
+use crate::requests::Request;
 use rrs_cli::fault::RunFault;
 use rrs_cli::loading::load;
 use rrs_exec::{DECODED_WORDS, InPieces, ProcessEnd, Progress, process_profile};
 use rrs_fast::{CachedMemory, Ending, OwnHart, ServedEnd, run_served};
+use rrs_hart::HartProfile;
 use rrs_lib::HartState;
 use rrs_lib::instruction_executor::InstructionExecutor;
 use rrs_linux::Linux;
@@ -30,8 +32,8 @@ pub const HEAP_START: u32 = 0x0008_0000;
 pub const HEAP_END: u32 = 0x000c_0000;
 
 /// Runs a reader's bytes as a program, and serves its system calls, for `limit` steps or until it
-/// ends or raises an exception. Its hart has the layers of [process_profile]. The end has the steps that were made and the pc
-/// after them. The progress is told of its steps, and of its end.
+/// ends or raises an exception. Its hart has the layers of the profile. The end has the steps that
+/// were made and the pc after them. The progress is told of its steps, and of its end.
 ///
 /// # Errors
 ///
@@ -41,12 +43,12 @@ pub fn execute<F: Read, R: Read, W: Write, E: Write, P: Progress>(
     alloc: Global,
     program: &mut F,
     limit: u64,
-    strict: bool,
+    profile: HartProfile,
     environment: &mut Linux<R, W, E>,
     progress: &mut P,
 ) -> Result<ProcessEnd, RunFault>
     ensures executed { IfOk result (λ end. ExecutesProgram
-        (Executing (Serves R.remaining W.contents E.contents) strict) limit
+        (Executing (Serves R.remaining W.contents E.contents) profile) limit
         (F.remaining program.old) (F.remaining program.new) environment.old environment.new
         end.steps end.pc end.ending) }
     ensures fault { IfErr result
@@ -63,7 +65,7 @@ pub fn execute<F: Read, R: Read, W: Write, E: Write, P: Progress>(
     };
     let mut runner = InPieces {
         runner: OwnHart {
-            profile: process_profile(strict),
+            profile,
             reservation: None,
         },
         progress: &mut *progress,
@@ -75,7 +77,7 @@ pub fn execute<F: Read, R: Read, W: Write, E: Write, P: Progress>(
     Ok(ProcessEnd { ending, steps, pc })
 }
 
-/// Runs the bytes of a file as `execute` does. Of a fault and of the limit it is told on standard
+/// Runs the bytes of a file as `execute` does, for a request. Of a fault and of the limit it is told on standard
 /// error where it was, and after how many steps.
 ///
 /// # Errors
@@ -83,18 +85,16 @@ pub fn execute<F: Read, R: Read, W: Write, E: Write, P: Progress>(
 /// Those of `read_program`, `Refusal::File` where it is too long, and out of memory as a failure.
 pub fn execute_file<'a, H: Files + Eprint + AllocGlobal, R: Read, W: Write, E: Write, P: Progress>(
     rt: &H,
-    path: &'a str,
-    limit: u64,
-    strict: bool,
+    request: Request<'a>,
     environment: &mut Linux<R, W, E>,
     progress: &mut P,
 ) -> Result<Ending, Refusal<'a>> {
-    let file = read_program(rt, path)?;
+    let file = read_program(rt, request.path())?;
     match execute(
         rt.alloc(),
         &mut file.as_slice(),
-        limit,
-        strict,
+        request.limit,
+        process_profile(request.is_strict),
         environment,
         progress,
     ) {
@@ -102,6 +102,6 @@ pub fn execute_file<'a, H: Files + Eprint + AllocGlobal, R: Read, W: Write, E: W
             tell(rt, "rrs exec", b"", environment.heap, &end);
             Ok(end.ending)
         }
-        Err(fault) => Err(unloaded(path, fault)),
+        Err(fault) => Err(unloaded(request.path(), fault)),
     }
 }

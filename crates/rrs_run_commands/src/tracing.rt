@@ -1,7 +1,7 @@
 //! `rrs trace`: the commit log of a run of a program, or of a board, as Spike writes it.
 
 use crate::boards::{Names, board_with, ending_of, own_names, stopped, typed_at};
-use crate::disassembling::code_of;
+use crate::disassembling::{code_in_units, unit_in};
 use crate::executables::{memory_for, tell};
 use crate::files::{Noting, STANDARD_ERROR, buffered, read_program, unwritten};
 use crate::options::Setting;
@@ -12,8 +12,8 @@ use crate::requests::Request;
 use crate::variables::variables_of;
 use crate::words::number_of;
 use rrs_board::Board;
-use rrs_elf::{Addresses, Executable, Symbols};
-use rrs_exec::Progress;
+use rrs_elf::{Addresses, CodeUnit, Executable, Symbols};
+use rrs_exec::{Progress, profile_for};
 use rrs_fast::Ending;
 use rrs_linux::Linux;
 use rrs_reports::{BoardTraceError, CodeRange, LogWindow, TraceError, trace_board, trace_process};
@@ -61,7 +61,7 @@ fn address_at<'a>(
         };
     }
     let file = names.file;
-    let program = match Executable::parse_at(file, names.addresses) {
+    let program = match Executable::parse_in(file, names.addresses, CodeUnit::HalfWord) {
         Ok(program) => program,
         Err(error) => return Err(no_executable(path, file, error)),
     };
@@ -90,7 +90,13 @@ fn function_of<'a>(
     let Some(name) = name else {
         return Ok(None);
     };
-    let code = code_of(alloc, path, names.file, names.addresses)?;
+    let code = code_in_units(
+        alloc,
+        path,
+        names.file,
+        names.addresses,
+        unit_in(names.file),
+    )?;
     for function in code.functions() {
         if function.name == name.as_bytes() {
             return Ok(Some(CodeRange {
@@ -152,6 +158,7 @@ fn trace_to<'a, H: Eprint + AllocGlobal, R: Read, W: Write, E: Write, O: Write, 
         &variables,
         memory_for(file, request.memory),
         request.limit,
+        profile_for(file, request.is_strict),
         environment,
         window,
         &mut out,

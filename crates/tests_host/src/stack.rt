@@ -3,7 +3,7 @@
 
 use rrs_exec::{
     Image, ImageError, LoadedProcess, ProgramHeaders, ProtectedMemory, initial_stack, load_process,
-    stack_pointer, started,
+    process_profile, stack_pointer, started,
 };
 use rrs_fast::{DecodeCache, Ending, ServedEnd, run_served};
 use rrs_lib::instruction_executor::InstructionExecutor;
@@ -150,7 +150,8 @@ fn load_with(alloc: Global, bytes: u32) -> Result<Result<LoadedProcess, ImageErr
         variable.push_str("v")?;
     }
     variables.push(variable)?;
-    Ok(load_process(alloc, &file, &arguments, &variables, 0x10_1000))
+    let profile = process_profile(false);
+    Ok(load_process(alloc, &file, &arguments, &variables, 0x10_1000, profile))
 }
 
 #[test]
@@ -204,7 +205,8 @@ fn a_program_reads_its_variables(rt: HostRuntime) -> Result<(), Fail> {
     let file = executable(alloc)?;
     let arguments = texts_of(alloc, &["p"])?;
     let variables = texts_of(alloc, &["A=1", "HOME=/r", "Z="])?;
-    let process = match load_process(alloc, &file, &arguments, &variables, 0x10_1000) {
+    let profile = process_profile(false);
+    let process = match load_process(alloc, &file, &arguments, &variables, 0x10_1000, profile) {
         Ok(process) => process,
         Err(_) => return Err(Fail::from(AllocError)),
     };

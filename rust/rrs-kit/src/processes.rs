@@ -5,7 +5,7 @@ use rattle_std::alloc::Global;
 use rattle_std::io::{Read, Write};
 use rattle_std::string::String;
 use rattle_std::vec::Vec;
-use rrs_exec::{ImageError, ProcessEnd, Progress, Watcher};
+use rrs_exec::{ImageError, ProcessEnd, Progress, Watcher, profile_for};
 use rrs_linux::{Heap, Linux, LinuxClocks, StoppedClocks};
 
 /// What a process gets, and how long it runs.
@@ -22,8 +22,7 @@ pub struct ProcessOptions {
     pub memory: u64,
     /// The most steps that it may make: 2^64 - 1.
     pub limit: u64,
-    /// Whether it ends at an exception that Linux mends: a misaligned load or store, and an atomic
-    /// instruction. A watched process does not look at this.
+    /// Whether it ends at a load or a store at a misaligned address, which Linux carries out.
     pub strict: bool,
 }
 
@@ -65,7 +64,7 @@ impl ProcessOptions {
         ProcessOptions { limit, ..self }
     }
 
-    /// With no exception mended, or with those that can be.
+    /// With misaligned loads and stores as faults, or carried out.
     #[must_use]
     pub fn strict(self, strict: bool) -> Self {
         ProcessOptions { strict, ..self }
@@ -118,7 +117,7 @@ pub fn execute_process<R: Read, W: Write, E: Write, P: Progress>(
         variables,
         *memory,
         *limit,
-        *strict,
+        profile_for(file, *strict),
         environment,
         progress,
     )
@@ -136,7 +135,7 @@ pub fn watch_process<R: Read, W: Write, E: Write, V: Watcher, P: Progress>(
     watcher: &mut V,
     progress: &mut P,
 ) -> Result<ProcessEnd, ImageError> {
-    let ProcessOptions { arguments, variables, memory, limit, .. } = options;
+    let ProcessOptions { arguments, variables, memory, limit, strict } = options;
     rrs_exec::watch_process(
         Global,
         file,
@@ -144,6 +143,7 @@ pub fn watch_process<R: Read, W: Write, E: Write, V: Watcher, P: Progress>(
         variables,
         *memory,
         *limit,
+        profile_for(file, *strict),
         environment,
         watcher,
         progress,

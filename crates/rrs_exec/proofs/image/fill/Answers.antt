@@ -1,6 +1,6 @@
 -- The load leaves the segments, and the stack is written above them.
 use Rattle.std.proofs.Common.{inl}
-use Rattle.rrs_exec.proofs.Filling.{filled_by, stack_passes, stack_refused}
+use Rattle.rrs_exec.proofs.Filling.{filled_by}
 use Rattle.rrs_exec.proofs.image.fill.Goals as goal
 
 pub returns-in-Ok-clause-filled : goal.returns-in-Ok-clause-filled

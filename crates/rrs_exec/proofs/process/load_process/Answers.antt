@@ -3,15 +3,17 @@ use Rattle.std.proofs.Common.{◌≡◌, ℕ, ◌+◌, ◌<◌, ◌≤◌, List,
 use Rattle.std.specs.String.{string_bytes}
 use Rattle.std.proofs.lemmas.Bool.Decides.{nat_tests}
 use Rattle.rrs_memory.specs.Bytes.{ByteMap}
-use Rattle.rrs_elf.specs.Executables.{IsExecutable, PT_LOAD}
+use Rattle.rrs_elf.specs.Executables.{IsExecutableIn, PT_LOAD}
+use Rattle.rrs_elf.specs.declared.code_units.CodeUnit.{CodeUnit}
 use Rattle.rrs_elf.specs.Headers.{e_entry, p_memsz, p_type, p_vaddr}
 use Rattle.rrs_elf.specs.Loading.{loaded_size}
 use Rattle.rrs_elf.specs.declared.program_headers.Addresses.{Addresses}
 use Rattle.rrs_elf.specs.declared.program_headers.Addresses.TheVariants.{Virtual}
 use Rattle.rrs_exec.specs.InitialStack.{stack_bytes}
-use Rattle.rrs_elf.proofs.Accepted.{accepted_to}
+use Rattle.rrs_elf.proofs.Accepted.{passed_in}
 use Rattle.rrs_exec.specs.declared.image.Image.{Image}
 use Rattle.rrs_exec.specs.declared.image.ImageError.{ImageError}
+use Rattle.rrs_exec.specs.Processes.{unit_of}
 use Rattle.rrs_exec.specs.ProcessMemories.{lies_between, process_writable}
 use Rattle.rrs_exec.specs.Images.{IsFillable, IsImage, Filled, memory_refusal}
 use Rattle.rrs_exec.proofs.StackWords.{block_length}
@@ -35,9 +37,9 @@ lies : (base end a : ℕ) → base ≤ a → a < end → lies_between base end a
 lies base end a from below = grind (arith, nat_tests)
 
 -- a program that can be entered has an address
-entered : (file : List ℕ) (arguments variables : List (List ℕ)) (wanted : ℕ) (image : Image) → IsExecutable file → IsImage file arguments variables wanted image
+entered : (unit : CodeUnit) (file : List ℕ) (arguments variables : List (List ℕ)) (wanted : ℕ) (image : Image) → IsExecutableIn unit Virtual file → IsImage file arguments variables wanted image
     → image.layout.base ≤ image.layout.stack_start
-entered file arguments variables wanted image here im =
+entered unit file arguments variables wanted image here im =
     let at = here.entry_inside in
     let sized : loaded_size file at.0 ≡ p_memsz file at.0 = loaded-whole file at.0 at.1.loaded.of_type in
     let inside = im.program at.0 (e_entry file - p_vaddr file at.0) at.1.loaded.numbered (omega (arith, sized, at.1.from_start, at.1.before_end)) in
@@ -45,8 +47,8 @@ entered file arguments variables wanted image here im =
 
 pub new-requires-clause-ordered : goal.new-requires-clause-ordered
 new-requires-clause-ordered c =
-    let here : IsExecutable c.args.file.now = search rules in
-    entered c.args.file.now (map string_bytes c.args.arguments.now) (map string_bytes c.args.variables.now) c.args.wanted c.in_ok-image.image here
+    let here : IsExecutableIn (unit_of c.args.profile) Virtual c.args.file.now = search rules in
+    entered (unit_of c.args.profile) c.args.file.now (map string_bytes c.args.arguments.now) (map string_bytes c.args.variables.now) c.args.wanted c.in_ok-image.image here
     (subst (λ file. IsImage file (map string_bytes c.args.arguments.now) (map string_bytes c.args.variables.now) c.args.wanted c.in_ok-image.image) c.in-Ok.ensures.same c.in_ok-image.ensures.image)
 
 pub new-requires-clause-stack : goal.new-requires-clause-stack
@@ -93,18 +95,18 @@ returns-in-Err-clause-refused c = λ refusal is. cc (is, c.in-Err.ensures.refuse
 
 pub returns-in_err-image-clause-refused : goal.returns-in_err-image-clause-refused
 returns-in_err-image-clause-refused c = λ refusal is.
-    let executable : IsExecutable c.args.file.now = search rules in
-    absurd (cc (is, accepted_to Virtual c.args.file.now executable))
+    let executable : IsExecutableIn (unit_of c.args.profile) Virtual c.args.file.now = search rules in
+    absurd (cc (is, passed_in (unit_of c.args.profile) Virtual c.args.file.now executable))
 
 pub returns-in-Err-new-clause-refused : goal.returns-in-Err-new-clause-refused
 returns-in-Err-new-clause-refused c = λ refusal is.
-    let executable : IsExecutable c.args.file.now = search rules in
-    absurd (cc (is, accepted_to Virtual c.args.file.now executable))
+    let executable : IsExecutableIn (unit_of c.args.profile) Virtual c.args.file.now = search rules in
+    absurd (cc (is, passed_in (unit_of c.args.profile) Virtual c.args.file.now executable))
 
 pub returns-in_err-fill-clause-refused : goal.returns-in_err-fill-clause-refused
 returns-in_err-fill-clause-refused c = λ refusal is.
-    let executable : IsExecutable c.args.file.now = search rules in
-    absurd (cc (is, accepted_to Virtual c.args.file.now executable))
+    let executable : IsExecutableIn (unit_of c.args.profile) Virtual c.args.file.now = search rules in
+    absurd (cc (is, passed_in (unit_of c.args.profile) Virtual c.args.file.now executable))
 
 -- Long arguments are refused before memory is taken.
 pub returns-clause-long : goal.returns-clause-long
@@ -143,7 +145,7 @@ returns-in_err-fill-clause-otherwise c = λ executable none fine.
     let layout = image.layout in
     let im = c.in_ok-image.ensures.image in
     let file = c.in-Ok.executable.file.now in
-    let low : layout.base ≤ layout.stack_start = entered file (map string_bytes c.args.arguments.now) (map string_bytes c.args.variables.now) c.args.wanted image (rw c.in-Ok.ensures.same executable) im in
+    let low : layout.base ≤ layout.stack_start = entered (unit_of c.args.profile) file (map string_bytes c.args.arguments.now) (map string_bytes c.args.variables.now) c.args.wanted image (rw c.in-Ok.ensures.same executable) im in
     let size : length c.deref.result.now ≡ stack_bytes (map string_bytes c.args.arguments.now) (map string_bytes c.args.variables.now) =
     ap length (c.deref.ensures.value ∙ im.stack_is) ∙ block_length image.stack_pointer (map string_bytes c.args.arguments.now) (map string_bytes c.args.variables.now) _ in
     let fits = im.fits in

@@ -1,6 +1,5 @@
 -- A step that is Ok, an ecall, or another exception.
-use Rattle.std.proofs.Common.{◌++◌, Ok, Err, refl, subst, ap, ◌∙◌, ◌≡◌}
-use Rattle.rrs_lib.specs.declared.instruction_executor.InstructionException.TheVariants.{EnvironmentCall}
+use Rattle.std.proofs.Common.{◌++◌, Err, refl, subst, ap, ◌∙◌}
 use Rattle.rrs_lib.specs.Steps.{StepAnswer}
 use Rattle.rrs_lib.specs.Executor.{state_in}
 use Rattle.rrs_lib.proofs.Making.{Makes-append}

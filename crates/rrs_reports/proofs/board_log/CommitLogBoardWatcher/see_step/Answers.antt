@@ -1,4 +1,4 @@
-use Rattle.std.proofs.Common.{◌≡◌, inl, inr, ap, sym, ◌∙◌, rules}
+use Rattle.std.proofs.Common.{inl, inr, ap, sym, ◌∙◌, rules}
 use Rattle.rrs_reports.specs.BoardLogs.{board_entry}
 use Rattle.rrs_reports.proofs.Logging.{logs_hidden, logs_shown}
 use Rattle.rrs_reports.proofs.board_log.CommitLogBoardWatcher.see_step.Goals as goal

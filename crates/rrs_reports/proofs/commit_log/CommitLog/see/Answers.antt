@@ -1,4 +1,4 @@
-use Rattle.std.proofs.Common.{◌≡◌, inl, inr, ap, sym, ◌∙◌, rules}
+use Rattle.std.proofs.Common.{inl, inr, ap, sym, ◌∙◌, rules}
 use Rattle.rrs_reports.specs.CommitLogs.{entry_of}
 use Rattle.rrs_reports.proofs.Logging.{logs_hidden, logs_shown}
 use Rattle.rrs_reports.proofs.commit_log.CommitLog.see.Goals as goal

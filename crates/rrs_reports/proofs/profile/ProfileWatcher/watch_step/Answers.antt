@@ -14,12 +14,12 @@ pub returns-clause-seen : goal.returns-clause-seen
 returns-clause-seen c =
     let state = state_in protected_bytes protected_writable in
     let p = c.args.profile in
-    let done = c.step_hart-answer in
+    let done = c.step_layers_cached-answer in
     let mid = done.new.executor in
     let s = hart_with (state c.args.executor.now) c.args.reservation.now in
     let t = hart_with (state mid) done.new.reservation in
     let step = done.ensures in
-    let made = recorded p c.args.number s t done.result step.accesses.accesses step.step step.accesses.only in
+    let made = recorded p c.args.number s t done.result step.accesses.accesses c.if-profile.false step.step step.accesses.only in
     let P : ProtectedMemory → Type 0 = λ m.
     SeesStep p (λ old r new. Counts old.coverage r new.coverage) c.args.number c.args.self.now s done.result
     (hart_with (state_of mid.hart_state.now (protected_bytes m) (protected_writable m)) done.new.reservation) c.see.new.self in
@@ -27,6 +27,6 @@ returns-clause-seen c =
       retired = made.0;
       step = step.step;
       retires = made.1;
-      seen = c.see.ensures.counts p c.args.number s t made.0 refl refl step.step made.1;
+      seen = c.see.ensures.counts p c.args.number s t made.0 c.if-profile.false refl refl step.step made.1;
     } in
     subst P (sym c.see.ensures.kept) seen
