@@ -288,14 +288,12 @@ class Expressions:
         return level + 1
 
     def unit(self, tokens, at, out):
-        """`Unit {0}`, the fact that always holds, is Agda's ⊤."""
+        """`Unit`, also with its `{0}`, the fact that always holds, is Agda's ⊤."""
         if tokens[at] != "Unit":
             return None
-        start = after_blanks(tokens, at + 1)
-        if tokens[start:start + 3] != ["{", "0", "}"]:
-            raise self.error(tokens[at], "Unit without its {0}")
         out.append("⊤")
-        return start + 3
+        start = after_blanks(tokens, at + 1)
+        return start + 3 if tokens[start:start + 3] == ["{", "0", "}"] else at + 1
 
     def comma(self, tokens, at, out):
         """A comma is an operator in Agda, and has spaces around it."""
