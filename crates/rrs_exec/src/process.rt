@@ -29,8 +29,8 @@ use std::io::{Read, Write};
 /// 1.25 MiB of stack.
 pub const DECODED_WORDS: usize = 65_536;
 
-/// How many decoded words are kept of a process that a [Watcher](crate::Watcher) makes the steps of:
-/// those of 128 KiB. It is another number than [DECODED_WORDS], so that a step by itself has
+/// How many decoded words are kept of a process that a [Watcher](crate::Watcher) makes the steps
+/// of: those of 128 KiB. It is another number than [DECODED_WORDS], so that a step by itself has
 /// functions of its own, and those of a run stay parts of its loop.
 pub const WATCHED_WORDS: usize = 32_768;
 
@@ -61,8 +61,8 @@ pub fn process_profile(strict: bool) -> HartProfile
     }
 }
 
-/// The usual profile of the hart for a file: that of [process_profile], and compressed code where the
-/// flags of the file say that it has some.
+/// The usual profile of the hart for a file: that of [process_profile], and compressed code where
+/// the flags of the file say that it has some.
 pub fn profile_for(file: &[u8], strict: bool) -> HartProfile
     ensures code { IsTrue result.compressed
         ↔ ((52 ≤ length file.now) × (e_flags file.now % 2 ≡ 1)) }
@@ -110,8 +110,8 @@ fn accepted(file: &[u8], profile: HartProfile) -> Result<Executable<'_>, ElfErro
 }
 
 /// Loads a file's bytes as an executable with these arguments, of which the first is its name, and
-/// these environment variables, as `NAME=VALUE`, in a memory of at most so many bytes, for a hart with
-/// this profile.
+/// these environment variables, as `NAME=VALUE`, in a memory of at most so many bytes, for a hart
+/// with this profile.
 ///
 /// # Errors
 ///
@@ -167,11 +167,11 @@ pub fn load_process(
 }
 
 /// Runs a file's bytes as an executable with these arguments, of which the first is its name, and
-/// these environment variables, as `NAME=VALUE`, in a memory of so many bytes, and serves its system
-/// calls, for `limit` steps or until it ends or raises an exception. Its hart has the layers of the
-/// profile: [process_profile] is the usual one. Its break begins after its segments, and the heap of the environment is set so.
-/// The end has the steps that were made and the pc after them. The progress is told of its
-/// steps, and of its end.
+/// these environment variables, as `NAME=VALUE`, in a memory of so many bytes, and serves its
+/// system calls, for `limit` steps or until it ends or raises an exception. Its hart has the layers
+/// of the profile: [process_profile] is the usual one. Its break begins after its segments, and the
+/// heap of the environment is set so. The end has the steps that were made and the pc after them.
+/// The progress is told of its steps, and of its end.
 ///
 /// # Errors
 ///

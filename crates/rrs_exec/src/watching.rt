@@ -45,11 +45,12 @@ pub trait Watcher {
     /// Whether the watcher wants to see more.
     ghost wants: { Self → Bool };
 
-    /// Makes the step of this number of a process, whose hart has this profile and this reservation,
-    /// and sees what it retired. Of an `ecall` that is served, and of a fault, the record has `trap`
-    /// set, and neither says what the call returns.
+    /// Makes the step of this number of a process, whose hart has this profile and this
+    /// reservation, and sees what it retired. Of an `ecall` that is served, and of a fault, the
+    /// record has `trap` set, and neither says what the call returns.
     ///
-    /// A watcher that needs no record makes the step by [run_layers_cached], and one that does by
+    /// A watcher that needs no record makes the step by
+    /// [step_layers_cached](rrs_fast::step_layers_cached), and one that does by
     /// [step_hart_retired](rrs_trace::step_hart_retired).
     ///
     /// # Errors
@@ -106,8 +107,8 @@ fn wants_more<V: Watcher>(watcher: &V) -> bool
     watcher.wants_more()
 }
 
-/// Has a watcher make the step of this number, and has an `ecall` served. The answer is `None` where
-/// the program goes on, or the status with which the call ended it.
+/// Has a watcher make the step of this number, and has an `ecall` served. The answer is `None`
+/// where the program goes on, or the status with which the call ended it.
 ///
 /// # Errors
 ///
