@@ -64,8 +64,9 @@ heap_of image = record {
 }
 
 -- A process is loaded and has made no step: a file is an executable for a machine whose instructions
--- lie in such units, an image is one of it, and its segments, at their virtual addresses, and its stack stand in a memory that is writable from the
--- first address to the end, and that is 0 elsewhere.
+-- lie in such units, an image is one of it, and its segments, at their virtual addresses, and its
+-- stack stand in a memory that is writable from the first address to the end, and that is 0
+-- elsewhere.
 pub record IsLoaded (unit : CodeUnit) (file : List ℕ) (arguments variables : List (List ℕ))
     (wanted : ℕ) (image : Image) (bytes : ByteMap) (writable : ℕ → Bool) : Type 0 where
   pub executable : IsExecutableIn unit Virtual file

@@ -77,8 +77,8 @@ pub fn execute<F: Read, R: Read, W: Write, E: Write, P: Progress>(
     Ok(ProcessEnd { ending, steps, pc })
 }
 
-/// Runs the bytes of a file as `execute` does, for a request. Of a fault and of the limit it is told on standard
-/// error where it was, and after how many steps.
+/// Runs the bytes of a file as `execute` does, for a request. Of a fault and of the limit it is told
+/// on standard error where it was, and after how many steps.
 ///
 /// # Errors
 ///
