@@ -2,5 +2,6 @@
 pub mod SystemRows
 pub mod SystemDecoding
 pub mod AtomicPlaces
+pub mod BitPlaces
 pub mod FormBits
 pub mod ShortDecoding

@@ -4,6 +4,7 @@
 -- that is not written reads as at reset, whatever was written: these fields are WARL. Without user
 -- mode MPP is 3, since there is no other mode.
 use Rattle.std.specs.Prelude.{ℕ, ◌*◌, ◌-◌, ◌+◌, ◌/◌, ◌%◌, ◌^◌, ◌==◌, ◌&&◌, nat_le, Bool, true, false, if◌then◌else◌, List, [], ◌∷◌, Option, Some, None, is_some, codes}
+use Rattle.rrs_words.specs.declared.csrs.HartProfile.{HartProfile}
 use Rattle.rrs_words.specs.declared.csrs.Profile.{Profile}
 use Rattle.rrs_words.specs.declared.csrs.Csr.{Csr}
 use Rattle.rrs_words.specs.declared.csrs.Csr.TheVariants.{Mstatus, Misa, Mie, Mtvec, Mcounteren, Mscratch, Mepc, Mcause, Mtval, Mcountinhibit, Mcycle, Mcycleh, Minstret, Minstreth, Mip, Time, Timeh, Constant}
@@ -19,11 +20,27 @@ either a b = word (or a b)
 
 -- ---- the profiles
 
+-- the 48 rows alone
+abbrev pub no_layers : HartProfile
+no_layers = record {
+  atomics = false;
+  fence_i = false;
+  misaligned = false;
+  compressed = false;
+  zba = false;
+  zbb = false;
+  zbs = false;
+}
+
+-- the layers of a hart that has fence.i, and extension A or not
+abbrev pub machine_layers : Bool → HartProfile
+machine_layers atomics = record no_layers { atomics = atomics; fence_i = true }
+
 abbrev pub machine_alone : Profile
-machine_alone = record { atomics = false; user_mode = false }
+machine_alone = record { hart = machine_layers false; user_mode = false }
 
 abbrev pub with_atomics_and_user_mode : Profile
-with_atomics_and_user_mode = record { atomics = true; user_mode = true }
+with_atomics_and_user_mode = record { hart = machine_layers true; user_mode = true }
 
 -- ---- the numbers
 
@@ -139,16 +156,21 @@ is_read_only n = n / 2 ^ 10 == 3
 -- ---- the bits
 
 -- misa: MXL is 1, for 32 bits, and then the extensions, each at the place of its letter: I and M, A
--- where there are atomics, and U where there is user mode
+-- where there are atomics, C where there are compressed instructions, and U where there is user mode
 abbrev pub misa_value : Profile → ℕ
 misa_value p =
     2 ^ 30 + 2 ^ 8 + 2 ^ 12
-    + (if p.atomics then 2 ^ 0 else 0) + (if p.user_mode then 2 ^ 20 else 0)
+    + (if p.hart.atomics then 2 ^ 0 else 0) + (if p.hart.compressed then 2 ^ 2 else 0)
+    + (if p.user_mode then 2 ^ 20 else 0)
 
 -- of mstatus: MIE and MPIE, and with user mode MPP, MPRV and TW
 abbrev pub status_bits : Profile → ℕ
 status_bits p =
     2 ^ 3 + 2 ^ 7 + (if p.user_mode then 3 * 2 ^ 11 + 2 ^ 17 + 2 ^ 21 else 0)
+
+-- of mepc: all but the lowest, or the two lowest where instructions are aligned to words
+abbrev pub return_bits : Profile → ℕ
+return_bits p = 2 ^ 32 - 1 - 2 ^ 0 - (if p.hart.compressed then 0 else 2 ^ 1)
 
 -- The bits that are written, by their places. Of a counter or a cause all are.
 abbrev pub written_bits : Profile → Csr → ℕ
@@ -159,8 +181,7 @@ written_bits p Mie = 2 ^ 3 + 2 ^ 7 + 2 ^ 11
 written_bits p Mtvec = 2 ^ 32 - 1 - 2 ^ 1
 -- CY, TM and IR
 written_bits p Mcounteren = 2 ^ 0 + 2 ^ 1 + 2 ^ 2
--- all but the two lowest, since instructions are aligned to words
-written_bits p Mepc = 2 ^ 32 - 1 - 2 ^ 1 - 2 ^ 0
+written_bits p Mepc = return_bits p
 -- CY and IR
 written_bits p Mcountinhibit = 2 ^ 0 + 2 ^ 2
 written_bits p Mscratch = 2 ^ 32 - 1

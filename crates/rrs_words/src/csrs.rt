@@ -5,34 +5,77 @@
 //! `specs/CsrNumbers.antt`.
 
 ghost use Rattle.std.specs.Prelude.{◌≡◌, ◌<◌};
-ghost use Rattle.rrs_words.specs.CsrNumbers.{machine_alone, with_atomics_and_user_mode, csr_among, setup_csrs, user_mode_csrs, user_mode_csr, handling_csrs, counter_csrs, reading_csrs, information_csrs, monitor_csr, csr_at, is_read_only, misa_value, status_bits, written_bits, fixed_bits, previous, with_previous, legal_previous, legal};
+ghost use Rattle.rrs_words.specs.CsrNumbers.{no_layers, machine_alone, with_atomics_and_user_mode, csr_among, setup_csrs, user_mode_csrs, user_mode_csr, handling_csrs, counter_csrs, reading_csrs, information_csrs, monitor_csr, csr_at, is_read_only, misa_value, status_bits, return_bits, written_bits, fixed_bits, previous, with_previous, legal_previous, legal};
 
-/// What a hart has beside RV32IM, Zicsr, Zifencei, Zicntr and machine mode.
+/// Which layers a hart has beside the 48 rows.
+#[derive(Debug, PartialEq, Clone, Copy)]
+pub struct HartProfile {
+    /// Extension A, on words.
+    pub atomics: bool,
+    /// Zifencei: `fence.i`, which does nothing, since each fetch reads what was stored.
+    pub fence_i: bool,
+    /// Whether loads and stores at misaligned addresses are carried out.
+    pub misaligned: bool,
+    /// Extension C for RV32 without floating point: instructions of 16 bits, at even addresses.
+    pub compressed: bool,
+    /// Zba: sums of shifted numbers, which are addresses.
+    pub zba: bool,
+    /// Zbb: operations on bits and bytes.
+    pub zbb: bool,
+    /// Zbs: operations on one bit.
+    pub zbs: bool,
+}
+
+impl HartProfile {
+    /// The 48 rows alone.
+    pub fn no_layers() -> HartProfile
+        ensures { result ≡ no_layers }
+    {
+        HartProfile {
+            atomics: false,
+            fence_i: false,
+            misaligned: false,
+            compressed: false,
+            zba: false,
+            zbb: false,
+            zbs: false,
+        }
+    }
+}
+
+/// What a hart has beside RV32IM, Zicsr, Zicntr and machine mode.
 #[derive(Debug, PartialEq, Clone, Copy)]
 pub struct Profile {
-    /// Whether it has the atomic instructions, extension A.
-    pub atomics: bool,
+    /// The layers of its instructions.
+    pub hart: HartProfile,
     /// Whether it has user mode.
     pub user_mode: bool,
 }
 
 impl Profile {
-    /// Machine mode alone.
+    /// Machine mode alone, with `fence.i`.
     pub fn machine_alone() -> Profile
         ensures { result ≡ machine_alone }
     {
         Profile {
-            atomics: false,
+            hart: HartProfile {
+                fence_i: true,
+                ..HartProfile::no_layers()
+            },
             user_mode: false,
         }
     }
 
-    /// Atomic instructions, and user mode beside machine mode.
+    /// Atomic instructions and `fence.i`, and user mode beside machine mode.
     pub fn with_atomics_and_user_mode() -> Profile
         ensures { result ≡ with_atomics_and_user_mode }
     {
         Profile {
-            atomics: true,
+            hart: HartProfile {
+                atomics: true,
+                fence_i: true,
+                ..HartProfile::no_layers()
+            },
             user_mode: true,
         }
     }
@@ -41,9 +84,21 @@ impl Profile {
     pub fn misa(self) -> u32
         ensures { result ≡ misa_value self }
     {
-        let atomics = if self.atomics { 1 } else { 0 };
+        let atomics = if self.hart.atomics { 1 } else { 0 };
+        let compressed = if self.hart.compressed { 4 } else { 0 };
         let user_mode = if self.user_mode { 0x10_0000 } else { 0 };
-        0x4000_1100 + atomics + user_mode
+        0x4000_1100 + atomics + compressed + user_mode
+    }
+
+    /// The bits of `mepc` that a write changes.
+    fn return_bits(self) -> u32
+        ensures { result ≡ return_bits self }
+    {
+        if self.hart.compressed {
+            0xffff_fffe
+        } else {
+            0xffff_fffc
+        }
     }
 
     /// The bits of `mstatus` that a write changes.
@@ -228,7 +283,7 @@ impl Csr {
             Csr::Mie => 0x888,
             Csr::Mtvec => 0xffff_fffd,
             Csr::Mcounteren => 0x7,
-            Csr::Mepc => 0xffff_fffc,
+            Csr::Mepc => profile.return_bits(),
             Csr::Mcountinhibit => 0x5,
             Csr::Misa | Csr::Mip | Csr::Time | Csr::Timeh | Csr::Constant(_) => 0,
             _ => 0xffff_ffff,

@@ -1,10 +1,13 @@
-//! From the instructions that the 48 rows leave out to words, and so from those of extension A.
+//! From the instructions that the 48 rows leave out to words, and so from those of extension A
+//! and of Zba, Zbb and Zbs.
 
 ghost use Rattle.std.specs.Prelude.{◌≡◌, ◌↔◌, ◌<◌, ◌^◌, ℕ, Some};
 ghost use Rattle.rrs_words.specs.SystemInstructions.{system_table, IsSystem};
 ghost use Rattle.rrs_words.specs.AtomicInstructions.{IsAtomic};
+ghost use Rattle.rrs_words.specs.BitInstructions.{IsBits};
 
 use crate::atomics::{AtomicInstruction, decode_atomic};
+use crate::bits::{BitInstruction, decode_bits};
 use crate::instructions::{SystemInstruction, SystemRow, decode_system};
 use rrs_encode::{is_in_range, word_of};
 use rrs_lib::instruction::InstructionFields;
@@ -74,6 +77,36 @@ pub fn encode_atomic(instruction: &AtomicInstruction) -> Option<u32>
     let word = word_of(0x2f, format);
     let read = decode_atomic(word)?;
     if read == *instruction {
+        Some(word)
+    } else {
+        None
+    }
+}
+
+/// The word that the instruction of Zba, Zbb or Zbs is, or `None` where no word is.
+///
+/// No word is where a field is out of its range, where funct7 or funct3 is not the row's, and where
+/// a number in the place of rs2 is not the row's. What `decode_bits` returned has the word that was
+/// decoded.
+///
+/// # Examples
+///
+/// ```
+/// let fields = RType { funct7: 0x10, rs2: 12, rs1: 11, funct3: 4, rd: 10 };
+/// let sum = BitInstruction { row: BitRow::Sh2add, fields };
+/// assert_eq!(rt; encode_bits(&sum), Some(0x20c5_c533));
+/// ```
+pub fn encode_bits(instruction: &BitInstruction) -> Option<u32>
+    ensures { (w : ℕ) → (result ≡ Some w)
+        ↔ IsBits w instruction.now.row instruction.now.fields }
+{
+    let format = InstructionFields::R(instruction.fields);
+    if !is_in_range(format) {
+        return None;
+    }
+    let word = word_of(instruction.row.opcode(), format);
+    let bits = decode_bits(word)?;
+    if bits == *instruction {
         Some(word)
     } else {
         None

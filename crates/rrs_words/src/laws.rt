@@ -7,12 +7,15 @@ ghost use Rattle.rrs_words.specs.declared.instructions.SystemRow.{SystemRow};
 ghost use Rattle.rrs_words.specs.declared.atomics.AtomicRow.{AtomicRow};
 ghost use Rattle.rrs_words.specs.SystemInstructions.{IsSystem};
 ghost use Rattle.rrs_words.specs.AtomicInstructions.{IsAtomic};
+ghost use Rattle.rrs_words.specs.declared.bits.BitRow.{BitRow};
+ghost use Rattle.rrs_words.specs.BitInstructions.{IsBits};
 ghost use Rattle.rrs_words.specs.declared.forms.ShortForm.{ShortForm as Form};
 ghost use Rattle.rrs_words.specs.declared.forms.ShortOperands.{ShortOperands as Operands};
 ghost use Rattle.rrs_words.specs.Forms.{IsShort};
 
 use crate::atomics::{AtomicInstruction, decode_atomic};
-use crate::encoding::{encode_atomic, encode_system};
+use crate::bits::{BitInstruction, decode_bits};
+use crate::encoding::{encode_atomic, encode_bits, encode_system};
 use crate::forms::ShortInstruction;
 use crate::instructions::{SystemInstruction, decode_system};
 use crate::short_decoding::decode_short;
@@ -96,6 +99,37 @@ pub fn atomic_encode_of_decode(word: u32) -> Option<(AtomicInstruction, Option<u
     let atomic = decode_atomic(word)?;
     let encoded = encode_atomic(&atomic);
     Some((atomic, encoded))
+}
+
+/// The word of an instruction of Zba, Zbb or Zbs, and what it is decoded to.
+///
+/// The answer is `None` exactly where no word is the instruction. Otherwise it is the word of the
+/// instruction (`word`), and what `decode_bits` returned for it, which is the instruction again
+/// (`same`).
+pub fn bits_decode_of_encode(instruction: &BitInstruction) -> Option<(u32, Option<BitInstruction>)>
+    ensures word { IfSome result
+        (λ both. IsBits both.0 instruction.now.row instruction.now.fields) }
+    ensures same { IfSome result (λ both. both.1 ≡ Some instruction.now) }
+    ensures no_word { IfNone result
+        ((w : ℕ) → ¬ IsBits w instruction.now.row instruction.now.fields) }
+{
+    let word = encode_bits(instruction)?;
+    Some((word, decode_bits(word)))
+}
+
+/// The instruction of Zba, Zbb or Zbs that a word is, and what it is encoded to.
+///
+/// The answer is `None` exactly for a word that is none of the 29. Otherwise it is the instruction
+/// of the word (`instruction`), and what `encode_bits` returned for it, which is the word again
+/// (`same`).
+pub fn bits_encode_of_decode(word: u32) -> Option<(BitInstruction, Option<u32>)>
+    ensures instruction { IfSome result (λ both. IsBits word both.0.row both.0.fields) }
+    ensures same { IfSome result (λ both. both.1 ≡ Some word) }
+    ensures outside { IfNone result ((row : BitRow) (f : RFields) → ¬ IsBits word row f) }
+{
+    let bits = decode_bits(word)?;
+    let encoded = encode_bits(&bits);
+    Some((bits, encoded))
 }
 
 /// The half-word of a compressed instruction, and what it is decoded to.

@@ -6,7 +6,9 @@ ghost use Rattle.rrs_words.specs.Layers.{IsOfLayer, layer_text};
 
 use crate::atomic_texts::atomic_text;
 use crate::atomics::{AtomicInstruction, decode_atomic};
-use crate::encoding::{encode_atomic, encode_system};
+use crate::bit_texts::bit_text;
+use crate::bits::{BitInstruction, decode_bits};
+use crate::encoding::{encode_atomic, encode_bits, encode_system};
 use crate::instructions::{SystemInstruction, decode_system};
 use crate::texts::{LayerText, system_text};
 
@@ -17,6 +19,8 @@ pub enum LayerInstruction {
     System(SystemInstruction),
     /// One of extension A.
     Atomic(AtomicInstruction),
+    /// One of Zba, Zbb or Zbs.
+    Bits(BitInstruction),
 }
 
 /// The instruction of a layer that a word is, or `None`.
@@ -42,6 +46,9 @@ pub fn decode_layer(word: u32) -> Option<LayerInstruction>
     if let Some(atomic) = decode_atomic(word) {
         return Some(LayerInstruction::Atomic(atomic));
     }
+    if let Some(bits) = decode_bits(word) {
+        return Some(LayerInstruction::Bits(bits));
+    }
     None
 }
 
@@ -52,6 +59,7 @@ pub fn encode_layer(instruction: &LayerInstruction) -> Option<u32>
     match instruction {
         LayerInstruction::System(system) => encode_system(system),
         LayerInstruction::Atomic(atomic) => encode_atomic(atomic),
+        LayerInstruction::Bits(bits) => encode_bits(bits),
     }
 }
 
@@ -62,5 +70,6 @@ pub fn layer_text(instruction: &LayerInstruction) -> LayerText
     match instruction {
         LayerInstruction::System(system) => system_text(system),
         LayerInstruction::Atomic(atomic) => atomic_text(atomic),
+        LayerInstruction::Bits(bits) => bit_text(bits),
     }
 }
