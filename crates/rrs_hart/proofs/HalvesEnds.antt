@@ -1,7 +1,6 @@
 -- How the functions of halves.rt end.
-use Rattle.std.proofs.Common.{◌≡◌, ℕ, ◌%◌, ◌==◌, ◌≤◌, List, ◌++◌, ℤ, Bool, true, false, not, if◌then◌else◌, Option, Some, None, Result, Ok, Err, IfOk, IfSome, refl, sym, subst, ap, ◌∙◌}
+use Rattle.std.proofs.Common.{◌≡◌, ℕ, ◌%◌, ◌==◌, ◌≤◌, ◌++◌, ℤ, Bool, true, false, not, if◌then◌else◌, Option, Some, None, Result, Ok, Err, IfOk, IfSome, refl, sym, subst, ap, ◌∙◌}
 use Rattle.std.proofs.lemmas.Option.{same_Some}
-use Rattle.rrs_memory.specs.declared.MemAccessSize.{MemAccessSize}
 use Rattle.rrs_memory.specs.Bytes.{little_endian, all_writable}
 use Rattle.rrs_instruction.specs.Encodings.{Fields, R, I, IShamt, S, B, U, J}
 use Rattle.rrs_instruction.specs.Table.{Row, table, Action, Load, Store, BranchIf, BranchUnless, JumpAndLink, JumpAndLinkRegister}
@@ -9,15 +8,15 @@ use Rattle.rrs_lib.specs.declared.instruction_executor.InstructionException.{Ins
 use Rattle.rrs_lib.specs.declared.instruction_executor.InstructionException.TheVariants.{AlignmentFault}
 use Rattle.rrs_lib.specs.Machine.{State, reg, plus_immediate, Answer, Outcome, outcome, read_outcome, load_outcome, branch_outcome, granted_outcome, store_outcome, fault_outcome, outcome_by, Executes}
 use Rattle.rrs_lib.specs.Steps.{StepAnswer, cleared, answered}
-use Rattle.rrs_lib.specs.Accesses.{Access, Makes, MakesExactly, accesses_of_row}
-use Rattle.rrs_hart.specs.declared.profile.HartProfile.{HartProfile}
+use Rattle.rrs_lib.specs.Accesses.{accesses_of_row}
+use Rattle.rrs_words.specs.declared.csrs.HartProfile.{HartProfile}
 use Rattle.rrs_hart.specs.Atomics.{AtomicOutcome, leaves}
 use Rattle.rrs_hart.specs.Anywhere.{anywhere_by, accesses_anywhere, told_anywhere, answer_of, LeavesIf}
-use Rattle.rrs_hart.specs.Profiles.{Hart, moved, moved_on}
+use Rattle.rrs_hart.specs.Profiles.{moved, moved_on}
 use Rattle.rrs_hart.specs.declared.bytes.ByteAccess.{ByteAccess}
 use Rattle.rrs_hart.specs.declared.halves.Encoding.{Encoding}
-use Rattle.rrs_hart.specs.Halves.{fetched, StandsFor, IsNoRow, advanced_by, Sized, IsCarriedOut, IsNotCarriedOut, RowStep, AsBytes, AccessesOfRowStep, OfBytes, AccessesOfHalves, TellsRow, TellsHalves}
-use Rattle.rrs_hart.proofs.HalvesSteps.{AccessesOfHalves-unique, one_row_stands, same_Ok}
+use Rattle.rrs_hart.specs.Halves.{fetched, StandsFor, IsNoRow, advanced_by, Sized, IsCarriedOut, IsNotCarriedOut, RowStep, AsBytes, AccessesOfRowStep, OfBytes, TellsRow, TellsHalves}
+use Rattle.rrs_hart.proofs.HalvesSteps.{one_row_stands, same_Ok}
 
 -- ---- an exception leaves the state as it was
 
@@ -98,11 +97,20 @@ carried_by_bytes p n row f s t u a answer (Some o) does allowed is left goes =
 -- ---- what is told
 
 -- a row that is Ok was not carried out
-whole_sized : (p : HartProfile) (n : ℕ) (row : Row) (f : Fields) (s t : State) → Sized n row f s t (Ok tt) → IsNotCarriedOut p row f s
+pub whole_sized : (p : HartProfile) (n : ℕ) (row : Row) (f : Fields) (s t : State) → Sized n row f s t (Ok tt) → IsNotCarriedOut p row f s
 whole_sized p n row f s t sized = λ a o is.
     let same : outcome sized.u sized.a ≡ outcome s (Err (AlignmentFault a)) = same_Some _ _ (sym sized.executes ∙ is.refused) in
     let answers : Ok tt ≡ answered (Err (AlignmentFault a)) = sized.answers ∙ ap (λ (o : Outcome). answered o.answer) same in
     cc (answers)
+
+-- nor was one that raised another exception
+pub other_sized : (p : HartProfile) (n : ℕ) (row : Row) (f : Fields) (s t : State) (e : InstructionException)
+    → Sized n row f s t (Err e) → ((a : ℕ) → e ≡ AlignmentFault a → ⊥) → IsNotCarriedOut p row f s
+other_sized p n row f s t e sized other = λ a o is.
+    let same : outcome s (Err e) ≡ outcome s (Err (AlignmentFault a)) =
+    same_Some _ _ (sym (fault_sized n row f s t e sized).1 ∙ is.refused) in
+    let answers : Err e ≡ Err (AlignmentFault a) = ap (λ (o : Outcome). o.answer) same in
+    other a (cc)
 
 pub tells_sized : (p : HartProfile) (n : ℕ) (row : Row) (f : Fields) (s t : State) → Sized n row f s t (Ok tt) → TellsRow p row f s None
 tells_sized p n row f s t sized = record {
@@ -157,11 +165,3 @@ pub layer_moved_by : (n m : ℕ) (t u : State) (r : Option ℕ) (answer : StepAn
     → leaves u r answer ≡ o → leaves t r answer ≡ moved_on m o
 layer_moved_by n m t u r answer o size goes left =
     (λ k. leaves ((goes ∙ (λ j. moved (size j) u answer)) k) r answer) ∙ ap (moved_on m) left
-
--- ---- a list that is the one, and was made
-
-pub exactly_halves : {M : Type 0} (reads : M → ℕ → MemAccessSize → M → Option ℕ → Type 0) (writes : M → ℕ → MemAccessSize → ℕ → M → Bool → Type 0)
-    (p : HartProfile) (s : Hart) (xs : List Access) (a b : M) → AccessesOfHalves p s xs → Makes reads writes xs a b
-    → MakesExactly reads writes (AccessesOfHalves p s) a b
-exactly_halves reads writes p s xs a b are made =
-    record { accesses = xs; these = are; only = λ others of. AccessesOfHalves-unique p s others xs of are; made = made }

@@ -12,7 +12,7 @@ use Rattle.rrs_lib.specs.Accesses.{Access}
 use Rattle.rrs_words.specs.declared.forms.ShortForm.{ShortForm}
 use Rattle.rrs_words.specs.declared.layers.LayerInstruction.{LayerInstruction}
 use Rattle.rrs_words.specs.Forms.{form_table, expanded_fields}
-use Rattle.rrs_hart.specs.declared.profile.HartProfile.{HartProfile}
+use Rattle.rrs_words.specs.declared.csrs.HartProfile.{HartProfile}
 use Rattle.rrs_hart.specs.declared.halves.Encoding.{Encoding}
 use Rattle.rrs_hart.specs.declared.halves.Encoding.TheVariants.{Short, Long}
 use Rattle.rrs_hart.specs.Atomics.{AtomicOutcome, leaves}

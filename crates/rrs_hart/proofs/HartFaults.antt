@@ -1,5 +1,5 @@
--- A step that raises an exception leaves each byte of memory as it was.
-use Rattle.std.proofs.Common.{◌≡◌, ℕ, ◌%◌, ◌==◌, ℤ, if◌then◌else◌, Bool, true, false, Option, Some, None, Err, refl, sym, subst, ap, ◌∙◌}
+-- A step that raises an exception leaves the state as it was, but for the register that was written last.
+use Rattle.std.proofs.Common.{◌≡◌, ℕ, ◌%◌, ◌==◌, ℤ, if◌then◌else◌, Bool, true, false, Option, Some, None, Ok, Err, OnErr, refl, sym, subst, ap, ◌∙◌}
 use Rattle.std.proofs.lemmas.Option.{none-some, same_Some}
 use Rattle.rrs_memory.specs.Bytes.{little_endian, all_writable}
 use Rattle.rrs_instruction.specs.declared.instruction_formats.RType.{RType}
@@ -12,19 +12,19 @@ use Rattle.rrs_lib.proofs.Keeping.{Step-fault}
 use Rattle.rrs_words.specs.declared.atomics.AtomicRow.{AtomicRow}
 use Rattle.rrs_words.specs.declared.atomics.AtomicRow.TheVariants.{LrW, ScW}
 use Rattle.rrs_words.specs.declared.layers.LayerInstruction.{LayerInstruction}
-use Rattle.rrs_words.specs.declared.layers.LayerInstruction.TheVariants.{System, Atomic}
-use Rattle.rrs_hart.specs.declared.profile.HartProfile.{HartProfile}
+use Rattle.rrs_words.specs.declared.layers.LayerInstruction.TheVariants.{System, Atomic, Bits}
+use Rattle.rrs_words.specs.declared.csrs.HartProfile.{HartProfile}
 use Rattle.rrs_hart.specs.Anywhere.{anywhere_by}
 use Rattle.rrs_hart.specs.Atomics.{AtomicOutcome, leaves, holds, reserved, conditional, swapped, aligned_outcome}
 use Rattle.rrs_hart.specs.Harts.{Hart, layer_outcome, moved, moved_on, HartStep, OfKit, OfLayer, ByBytes, OfHalves}
 use Rattle.rrs_hart.specs.Halves.{bytes_of, RowStep, AsRow, AsBytes, HalvesStep, NotFetched, NoInstruction, ARow, ALayer}
 use Rattle.rrs_hart.proofs.HalvesEnds.{fault_sized}
 
-abbrev KeepsBytes : State → State → StepAnswer → Type 0
-KeepsBytes s t answer = (e : InstructionException) → answer ≡ Err e → t.bytes ≡ s.bytes
+abbrev KeepsState : State → State → StepAnswer → Type 0
+KeepsState s t answer = (e : InstructionException) → answer ≡ Err e → t ≡ s
 
 abbrev Keeps : State → AtomicOutcome → Type 0
-Keeps s o = KeepsBytes s o.after o.answer
+Keeps s o = KeepsState s o.after o.answer
 
 keeps_if : (s : State) (b : Bool) (x y : AtomicOutcome) → Keeps s x → Keeps s y → Keeps s (if b then x else y)
 keeps_if s true x y p q = p
@@ -49,56 +49,64 @@ keeps_aligned row f a s r = keeps_swapped row f a s r (little_endian s.bytes a 4
 
 keeps_layer : (i : LayerInstruction) (s : State) (r : Option ℕ) → Keeps s (layer_outcome i s r)
 keeps_layer (System i) s r = λ e is. absurd (cc (is))
+keeps_layer (Bits i) s r = λ e is. absurd (cc (is))
 keeps_layer (Atomic i) s r =
     keeps_if s (reg s i.fields.rs1 % 4 == 0) _ _ (keeps_aligned i.row i.fields (reg s i.fields.rs1) s r) (λ e is. refl)
 
 keeps_read : (extended : ℕ → ℤ) (rd a : ℕ) (s : State) (o : Option ℕ)
-    → KeepsBytes s (read_outcome extended rd a s o).after (answered (read_outcome extended rd a s o).answer)
+    → KeepsState s (read_outcome extended rd a s o).after (answered (read_outcome extended rd a s o).answer)
 keeps_read extended rd a s None = λ e is. refl
 keeps_read extended rd a s (Some value) = λ e is. absurd (cc (is))
 
-keeps_either : (s : State) (b : Bool) (x y : Outcome) → KeepsBytes s x.after (answered x.answer) → KeepsBytes s y.after (answered y.answer)
-    → KeepsBytes s (if b then x else y).after (answered (if b then x else y).answer)
+keeps_either : (s : State) (b : Bool) (x y : Outcome) → KeepsState s x.after (answered x.answer) → KeepsState s y.after (answered y.answer)
+    → KeepsState s (if b then x else y).after (answered (if b then x else y).answer)
 keeps_either s true x y p q = p
 keeps_either s false x y p q = q
 
 keeps_anywhere : (action : Action) (f : Fields) (s : State) (o : Outcome) → anywhere_by action f s ≡ Some o
-    → KeepsBytes s o.after (answered o.answer)
+    → KeepsState s o.after (answered o.answer)
 keeps_anywhere (Load n extended) (I f) s o is =
-    subst (λ (x : Outcome). KeepsBytes s x.after (answered x.answer)) (same_Some _ _ is)
+    subst (λ (x : Outcome). KeepsState s x.after (answered x.answer)) (same_Some _ _ is)
     (keeps_read extended f.rd (plus_immediate (reg s f.rs1) f.imm) s (little_endian s.bytes (plus_immediate (reg s f.rs1) f.imm) n))
 keeps_anywhere (Store n) (S f) s o is =
-    subst (λ (x : Outcome). KeepsBytes s x.after (answered x.answer)) (same_Some _ _ is)
+    subst (λ (x : Outcome). KeepsState s x.after (answered x.answer)) (same_Some _ _ is)
     (keeps_either s (all_writable s.writable (plus_immediate (reg s f.rs1) f.imm) n) _ _ (λ e fault. absurd (cc (fault))) (λ e fault. refl))
 keeps_anywhere _ _ s o is = absurd (none-some o is)
 
 moved_fault : (n : ℕ) (s : State) (answer : StepAnswer) (e : InstructionException) → answer ≡ Err e → moved n s answer ≡ s
 moved_fault n s answer e is = ap (moved n s) is
 
-left_bytes : (n : ℕ) (s : State) (t : Hart) (e : InstructionException) (o : AtomicOutcome) → Keeps s o
-    → leaves t.state t.reserved (Err e) ≡ moved_on n o → t.state.bytes ≡ s.bytes
-left_bytes n s t e o keeps left =
+left_state : (n : ℕ) (s : State) (t : Hart) (e : InstructionException) (o : AtomicOutcome) → Keeps s o
+    → leaves t.state t.reserved (Err e) ≡ moved_on n o → t.state ≡ s
+left_state n s t e o keeps left =
     let fault : o.answer ≡ Err e = sym (ap (λ (x : AtomicOutcome). x.answer) left) in
-    ap (λ (x : AtomicOutcome). x.after.bytes) left ∙ ap (λ (x : State). x.bytes) (moved_fault n o.after o.answer e fault) ∙ keeps e fault
+    ap (λ (x : AtomicOutcome). x.after) left ∙ moved_fault n o.after o.answer e fault ∙ keeps e fault
 
-row_bytes : (p : HartProfile) (n : ℕ) (row : Row) (f : Fields) (s t : State) (e : InstructionException) → RowStep p n row f s t (Err e) → t.bytes ≡ s.bytes
-row_bytes p n row f s t e (AsRow none sized) = ap (λ (x : State). x.bytes) (fault_sized n row f s t e sized).0
-row_bytes p n row f s t e (AsBytes a o is after answers) =
-    ap (λ (x : State). x.bytes) (after ∙ moved_fault n o.after (answered o.answer) e (sym answers))
+row_state : (p : HartProfile) (n : ℕ) (row : Row) (f : Fields) (s t : State) (e : InstructionException) → RowStep p n row f s t (Err e) → t ≡ s
+row_state p n row f s t e (AsRow none sized) = (fault_sized n row f s t e sized).0
+row_state p n row f s t e (AsBytes a o is after answers) =
+    after ∙ moved_fault n o.after (answered o.answer) e (sym answers)
     ∙ keeps_anywhere (table row).action f s o is.carried e (sym answers)
 
-halves_bytes : (p : HartProfile) (s t : Hart) (e : InstructionException) → HalvesStep p s t (Err e) → t.state.bytes ≡ s.state.bytes
-halves_bytes p s t e (NotFetched fault is left) = ap (λ (x : AtomicOutcome). x.after.bytes) left
-halves_bytes p s t e (NoInstruction x is illegal left) = ap (λ (x : AtomicOutcome). x.after.bytes) left
-halves_bytes p s t e (ARow x row f is stands step kept) = row_bytes p (bytes_of x) row f (cleared s.state) t.state e step
-halves_bytes p s t e (ALayer x i is none layers left) =
-    left_bytes (bytes_of x) (cleared s.state) t e (layer_outcome i (cleared s.state) s.reserved) (keeps_layer i (cleared s.state) s.reserved) left
+halves_state : (p : HartProfile) (s t : Hart) (e : InstructionException) → HalvesStep p s t (Err e) → t.state ≡ cleared s.state
+halves_state p s t e (NotFetched fault is left) = ap (λ (x : AtomicOutcome). x.after) left
+halves_state p s t e (NoInstruction x is illegal left) = ap (λ (x : AtomicOutcome). x.after) left
+halves_state p s t e (ARow x row f is stands step kept) = row_state p (bytes_of x) row f (cleared s.state) t.state e step
+halves_state p s t e (ALayer x i is none layers left) =
+    left_state (bytes_of x) (cleared s.state) t e (layer_outcome i (cleared s.state) s.reserved) (keeps_layer i (cleared s.state) s.reserved) left
+
+pub fault_keeps : (p : HartProfile) (s t : Hart) (e : InstructionException) → HartStep p s t (Err e) → t.state ≡ cleared s.state
+fault_keeps p s t e (OfKit kits step kept) = Step-fault s.state t.state (Err e) step
+fault_keeps p s t e (OfLayer w i at left) =
+    left_state 4 (cleared s.state) t e (layer_outcome i (cleared s.state) s.reserved) (keeps_layer i (cleared s.state) s.reserved) left
+fault_keeps p s t e (ByBytes w row f a o at left) =
+    left_state 4 (cleared s.state) t e (leaves o.after s.reserved (answered o.answer))
+    (keeps_anywhere (table row).action f (cleared s.state) o at.carried) left
+fault_keeps p s t e (OfHalves halves step) = halves_state p s t e step
 
 pub fault_keeps_bytes : (p : HartProfile) (s t : Hart) (e : InstructionException) → HartStep p s t (Err e) → t.state.bytes ≡ s.state.bytes
-fault_keeps_bytes p s t e (OfKit kits step kept) = ap (λ (x : State). x.bytes) (Step-fault s.state t.state (Err e) step)
-fault_keeps_bytes p s t e (OfLayer w i at left) =
-    left_bytes 4 (cleared s.state) t e (layer_outcome i (cleared s.state) s.reserved) (keeps_layer i (cleared s.state) s.reserved) left
-fault_keeps_bytes p s t e (ByBytes w row f a o at left) =
-    left_bytes 4 (cleared s.state) t e (leaves o.after s.reserved (answered o.answer))
-    (keeps_anywhere (table row).action f (cleared s.state) o at.carried) left
-fault_keeps_bytes p s t e (OfHalves halves step) = halves_bytes p s t e step
+fault_keeps_bytes p s t e step = ap (λ (x : State). x.bytes) (fault_keeps p s t e step)
+
+pub HartStep-fault : (p : HartProfile) (s t : Hart) (answer : StepAnswer) → HartStep p s t answer → OnErr answer (t.state ≡ cleared s.state)
+HartStep-fault p s t (Ok x) step = tt
+HartStep-fault p s t (Err e) step = fault_keeps p s t e step

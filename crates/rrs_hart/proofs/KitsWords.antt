@@ -1,19 +1,19 @@
 -- At a word whose low bits are 11, and in which no layer takes part, the step of a hart is the kit's.
-use Rattle.std.proofs.Common.{◌≡◌, ℕ, ◌%◌, ◌<◌, ◌^◌, false, Some, Ok, Err, sym, subst, ap, ◌∙◌}
+use Rattle.std.proofs.Common.{◌≡◌, ℕ, ◌%◌, ◌<◌, ◌^◌, Some, Ok, Err, sym, subst, ap, ◌∙◌}
 use Rattle.std.proofs.lemmas.Option.{same_Some}
 use Rattle.rrs_memory.specs.Bytes.{little_endian}
 use Rattle.rrs_instruction.specs.Encodings.{Fields}
 use Rattle.rrs_instruction.specs.Table.{Row, Decodes, IsIllegal}
 use Rattle.rrs_lib.specs.declared.instruction_executor.InstructionException.TheVariants.{IllegalInstruction}
 use Rattle.rrs_lib.specs.Steps.{Step, StepAnswer, Illegal, Legal, cleared}
-use Rattle.rrs_hart.specs.declared.profile.HartProfile.{HartProfile}
+use Rattle.rrs_words.specs.declared.csrs.HartProfile.{HartProfile}
 use Rattle.rrs_hart.specs.declared.halves.Encoding.{Encoding}
 use Rattle.rrs_hart.specs.declared.halves.Encoding.TheVariants.{Long}
 use Rattle.rrs_hart.specs.Atomics.{AtomicOutcome}
 use Rattle.rrs_hart.specs.Halves.{bytes_of, bits_of, fetched, StandsFor, IsNoRow, IsLayers, RowStep, AsRow, AsBytes, HalvesStep, NotFetched, NoInstruction, ARow, ALayer}
-use Rattle.rrs_hart.specs.Harts.{Hart, IsOfProfile, IsKits, IsKitsWord, HartStep}
+use Rattle.rrs_hart.specs.Harts.{Hart, IsOfProfile, IsKitsWord, HartStep, OfKit, OfLayer, ByBytes, OfHalves}
 use Rattle.rrs_hart.proofs.HalvesSteps.{same_Ok, not_both}
-use Rattle.rrs_hart.proofs.HartSteps.{word_stands, step_of_kit, kept_of_kit}
+use Rattle.rrs_hart.proofs.HartSteps.{word_stands}
 use Rattle.rrs_hart.proofs.WholeWords.{word_fetched, advanced_by_four}
 
 -- ---- by half-words
@@ -34,7 +34,7 @@ module _ (p : HartProfile) (s t : Hart) (answer : StepAnswer) (w : ℕ) (inside 
       (sized.after ∙ advanced_by_four row f (cleared s.state) sized.u sized.a sized.executes) sized.answers
   row_too row f decodes (AsBytes a o is after answers) = absurd (at.no_bytes row f decodes a o is)
 
-  pub kits_by_halves : HalvesStep p s t answer → KitsToo s t answer
+  kits_by_halves : HalvesStep p s t answer → KitsToo s t answer
   kits_by_halves (NotFetched e is left) = absurd (not_both (Long w) e _ whole is)
   kits_by_halves (NoInstruction x is illegal left) =
       let same : x ≡ Long w = same_Ok x (Long w) _ is whole in
@@ -51,18 +51,15 @@ module _ (p : HartProfile) (s t : Hart) (answer : StepAnswer) (w : ℕ) (inside 
       let same : x ≡ Long w = same_Ok x (Long w) _ is whole in
       absurd (at.no_layer (subst IsNoRow same none) i (subst (λ y. IsLayers p y i) same layers))
 
--- ---- by words
+-- ---- by words or half-words
 
-pub kits_by_words : (p : HartProfile) (s t : Hart) (answer : StepAnswer) (w : ℕ) → p.compressed ≡ false → IsKitsWord p s.state w
+pub kits_at_word : (p : HartProfile) (s t : Hart) (answer : StepAnswer) (w : ℕ) → s.state.pc < 2 ^ 32 → IsKitsWord p s.state w
     → HartStep p s t answer → KitsToo s t answer
-kits_by_words p s t answer w words at step =
-    let kits : IsKits p s.state = record {
-      words = words;
-      no_layer = λ v i is.
-          let same : v ≡ w = same_Some _ _ (sym is.fetched ∙ at.fetched) in
-          at.no_layer (subst IsIllegal same is.outside) i (subst (λ x. IsOfProfile p x i) same is.is);
-      no_bytes = λ v row f a o is.
-          let same : v ≡ w = same_Some _ _ (sym is.fetched ∙ at.fetched) in
-          at.no_bytes row f (subst (λ x. Decodes x row f) same is.decoded) a o (record { allowed = is.allowed; refused = is.refused; carried = is.carried });
-    } in
-    (step_of_kit p s t answer step kits, kept_of_kit p s t answer step kits)
+kits_at_word p s t answer w inside at (OfKit kits step kept) = (step, kept)
+kits_at_word p s t answer w inside at (OfLayer v i is left) =
+    let same : v ≡ w = same_Some _ _ (sym is.fetched ∙ at.fetched) in
+    absurd (at.no_layer (subst IsIllegal same is.outside) i (subst (λ x. IsOfProfile p x i) same is.is))
+kits_at_word p s t answer w inside at (ByBytes v row f a o is left) =
+    let same : v ≡ w = same_Some _ _ (sym is.fetched ∙ at.fetched) in
+    absurd (at.no_bytes row f (subst (λ x. Decodes x row f) same is.decoded) a o (record { allowed = is.allowed; refused = is.refused; carried = is.carried }))
+kits_at_word p s t answer w inside at (OfHalves halves step) = kits_by_halves p s t answer w inside at step

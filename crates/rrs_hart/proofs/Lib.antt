@@ -6,6 +6,7 @@ pub mod ShortRegisters
 pub mod HalvesSteps
 pub mod HalvesEnds
 pub mod HartSteps
+pub mod Fetches
 pub mod Chains
 pub mod WholeWords
 pub mod KitsWords

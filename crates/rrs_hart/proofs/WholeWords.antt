@@ -15,7 +15,7 @@ use Rattle.rrs_lib.specs.declared.instruction_executor.InstructionException.TheV
 use Rattle.rrs_lib.specs.Machine.{State, reg, put, with_pc, plus_immediate, made_even, Answer, Outcome, outcome, outcome_by, branch_outcome, load_outcome, read_outcome, store_outcome, granted_outcome, fault_outcome, Executes}
 use Rattle.rrs_lib.specs.Steps.{Step, StepAnswer, Misaligned, Unmapped, Illegal, Legal, cleared, advanced, answered}
 use Rattle.rrs_lib.proofs.Keeping.{Executes-pc}
-use Rattle.rrs_hart.specs.declared.profile.HartProfile.{HartProfile}
+use Rattle.rrs_words.specs.declared.csrs.HartProfile.{HartProfile}
 use Rattle.rrs_hart.specs.declared.halves.Encoding.TheVariants.{Short, Long}
 use Rattle.rrs_hart.specs.Profiles.{hart_with}
 use Rattle.rrs_hart.specs.Halves.{behind, joined, begun, fetched, relinked, advanced_by, IsNotCarriedOut, AsRow, HalvesStep, ARow}

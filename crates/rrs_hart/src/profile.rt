@@ -2,22 +2,9 @@
 
 ghost use Rattle.std.specs.Prelude.{◌≡◌, IfSome, IfNone};
 ghost use Rattle.rrs_words.specs.declared.layers.LayerInstruction.{LayerInstruction as Layer};
-ghost use Rattle.rrs_hart.specs.Harts.{has_system, has_layer, IsOfProfile};
+ghost use Rattle.rrs_hart.specs.Harts.{has_system, has_bits, has_layer, IsOfProfile};
 
-use rrs_words::{LayerInstruction, SystemRow, decode_layer};
-
-/// Which layers a hart has beside the 48 rows.
-#[derive(Debug, PartialEq, Clone, Copy)]
-pub struct HartProfile {
-    /// Extension A, on words.
-    pub atomics: bool,
-    /// Zifencei: `fence.i`, which does nothing, since each fetch reads what was stored.
-    pub fence_i: bool,
-    /// Whether loads and stores at misaligned addresses are carried out.
-    pub misaligned: bool,
-    /// Extension C for RV32 without floating point: instructions of 16 bits, at even addresses.
-    pub compressed: bool,
-}
+use rrs_words::{BitExtension, HartProfile, LayerInstruction, SystemRow, decode_layer};
 
 /// Whether a hart has an instruction that `rrs_words` has in a table of its own.
 fn has_system(profile: HartProfile, row: SystemRow) -> bool
@@ -29,6 +16,17 @@ fn has_system(profile: HartProfile, row: SystemRow) -> bool
     }
 }
 
+/// Whether a hart has an extension of Zba, Zbb and Zbs.
+fn has_bits(profile: HartProfile, extension: BitExtension) -> bool
+    ensures { result ≡ has_bits profile extension }
+{
+    match extension {
+        BitExtension::Zba => profile.zba,
+        BitExtension::Zbb => profile.zbb,
+        BitExtension::Zbs => profile.zbs,
+    }
+}
+
 /// Whether a hart has the instruction of a layer.
 fn has_layer(profile: HartProfile, instruction: &LayerInstruction) -> bool
     ensures { result ≡ has_layer profile instruction.now }
@@ -36,6 +34,7 @@ fn has_layer(profile: HartProfile, instruction: &LayerInstruction) -> bool
     match instruction {
         LayerInstruction::System(system) => has_system(profile, system.row),
         LayerInstruction::Atomic(_) => profile.atomics,
+        LayerInstruction::Bits(bits) => has_bits(profile, bits.row.extension()),
     }
 }
 
