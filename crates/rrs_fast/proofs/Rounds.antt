@@ -10,7 +10,7 @@ use Rattle.rrs_fast.specs.declared.serving.Ending.TheVariants.{Fault, Exit}
 use Rattle.rrs_lib.specs.Machine.{State}
 use Rattle.rrs_lib.specs.Accesses.{Access, answers_of_run, Makes, MakesExactly}
 use Rattle.rrs_lib.proofs.Making.{Makes-append}
-use Rattle.rrs_hart.specs.declared.profile.HartProfile.{HartProfile}
+use Rattle.rrs_words.specs.declared.csrs.HartProfile.{HartProfile}
 use Rattle.rrs_hart.specs.Harts.{Hart, hart_with, HartRun, AccessesOfHartRun}
 use Rattle.rrs_hart.proofs.HartRuns.{HartRun-unique, AccessesOfHartRun-unique}
 use Rattle.rrs_fast.specs.Serving.{Relation, resumed, EndsBy, Called, HartServed, Last, Exits, GoesOn}

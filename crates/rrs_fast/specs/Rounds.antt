@@ -3,7 +3,7 @@ use Rattle.std.specs.Prelude.{ℕ, ◌<◌, ◌≤◌, List, None}
 use Rattle.rrs_fast.specs.declared.serving.Round.{Round}
 use Rattle.rrs_fast.specs.declared.serving.Round.TheVariants.{GoneOn, Ended}
 use Rattle.rrs_lib.specs.Accesses.{Access}
-use Rattle.rrs_hart.specs.declared.profile.HartProfile.{HartProfile}
+use Rattle.rrs_words.specs.declared.csrs.HartProfile.{HartProfile}
 use Rattle.rrs_hart.specs.Harts.{Hart}
 use Rattle.rrs_fast.specs.Serving.{Relation, Called, HartServed}
 

@@ -11,7 +11,7 @@ use Rattle.rrs_fast.specs.declared.serving.Ending.TheVariants.{Limit, Fault, Exi
 use Rattle.rrs_lib.specs.Machine.{State, with_pc}
 use Rattle.rrs_lib.specs.Accesses.{Access, answers_of_run, Makes}
 use Rattle.rrs_lib.specs.Words.{word}
-use Rattle.rrs_hart.specs.declared.profile.HartProfile.{HartProfile}
+use Rattle.rrs_words.specs.declared.csrs.HartProfile.{HartProfile}
 use Rattle.rrs_hart.specs.Harts.{Hart, hart_with, no_layers, HartRun, AccessesOfHartRun}
 
 -- What an environment says of a call: itself and the machine before, both after, the accesses that
