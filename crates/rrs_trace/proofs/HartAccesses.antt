@@ -9,6 +9,7 @@ use Rattle.rrs_instruction.specs.declared.instruction_formats.RType.{RType}
 use Rattle.rrs_instruction.specs.Encodings.{Fields, I, S}
 use Rattle.rrs_instruction.specs.Table.{Row, table, Action, Load, Store, Decodes, IsIllegal}
 use Rattle.rrs_lib.specs.declared.instruction_executor.InstructionException.{InstructionException}
+use Rattle.rrs_lib.specs.declared.instruction_executor.InstructionException.TheVariants.{AlignmentFault}
 use Rattle.rrs_lib.specs.Machine.{State, Outcome, reg, plus_immediate, read_outcome}
 use Rattle.rrs_lib.specs.Steps.{Step, StepAnswer, Misaligned, Unmapped, Illegal, Legal, next_word, cleared, answered}
 use Rattle.rrs_lib.specs.Accesses.{Access, Read, Write, Makes, AccessesOf, OfNone, OfFetch, OfRow, fetch, read_in, write_in, read_if_aligned, write_if_aligned, size_of, accesses_by, accesses_of_row}
@@ -16,21 +17,23 @@ use Rattle.rrs_instruction.proofs.Rows.{one_row_at_most}
 use Rattle.rrs_words.specs.declared.atomics.AtomicRow.{AtomicRow}
 use Rattle.rrs_words.specs.declared.atomics.AtomicRow.TheVariants.{LrW, ScW}
 use Rattle.rrs_words.specs.declared.layers.LayerInstruction.{LayerInstruction}
-use Rattle.rrs_words.specs.declared.layers.LayerInstruction.TheVariants.{System, Atomic}
+use Rattle.rrs_words.specs.declared.layers.LayerInstruction.TheVariants.{System, Atomic, Bits}
 use Rattle.rrs_hart.specs.declared.bytes.ByteAccess.{ByteAccess}
-use Rattle.rrs_hart.specs.declared.profile.HartProfile.{HartProfile}
+use Rattle.rrs_words.specs.declared.csrs.HartProfile.{HartProfile}
 use Rattle.rrs_hart.specs.Anywhere.{anywhere_by, told_load, told_anywhere}
 use Rattle.rrs_hart.specs.Atomics.{AtomicOutcome, holds, combined, swap_accesses, aligned_accesses}
-use Rattle.rrs_hart.specs.Harts.{Hart, layer_accesses, IsOfProfile, LayerAt, BytesAt, IsKits, HartStep, OfKit, OfLayer, ByBytes, TellsBytes, AccessesOfHart, KitAccesses, LayerAccesses, ByteAccesses, HalvesAccesses, OfHalves}
+use Rattle.rrs_hart.specs.Harts.{Hart, whole, word_fetched, fetched_in, fetch_reads_in, layer_accesses, IsOfProfile, LayerAt, BytesAt, IsKits, HartStep, OfKit, OfLayer, ByBytes, TellsBytes, AccessesOfHart, KitAccesses, LayerAccesses, ByteAccesses, HalvesAccesses, OfHalves}
 use Rattle.rrs_hart.specs.declared.halves.Encoding.{Encoding}
-use Rattle.rrs_hart.specs.Halves.{fetched, fetch_reads, StandsFor, IsNoRow, IsLayers, IsIllegalIn, IsCarriedOut, IsNothing, AccessesOfRowStep, OfRow, OfBytes, AccessesOfHalves, FetchAlone, FetchAndRow, FetchAndLayer, TellsHalves}
+use Rattle.rrs_hart.specs.declared.halves.Encoding.TheVariants.{Long}
+use Rattle.rrs_hart.specs.Halves.{bits_of, fetched, fetch_reads, StandsFor, IsNoRow, IsLayers, IsIllegalIn, IsCarriedOut, IsNothing, AccessesOfRowStep, OfRow, OfBytes, AccessesOfHalves, FetchAlone, FetchAndRow, FetchAndLayer, TellsHalves}
+use Rattle.rrs_hart.proofs.Fetches.{fetched_by_words, reads_by_words, reads_by_halves}
 use Rattle.rrs_hart.proofs.HalvesSteps.{AccessesOfHalves-unique, same_Ok, not_both}
 use Rattle.rrs_hart.proofs.HartSteps.{AccessesOfHart-unique, next_stands, one_instruction, tells_none}
 use Rattle.rrs_trace.specs.declared.traced.MemoryAccess.{MemoryAccess}
 use Rattle.rrs_trace.specs.declared.traced.TracedMemory.{TracedMemory}
 use Rattle.rrs_trace.specs.Retired.{no_access, log_of, followed, later_access, after_fetch, first_source, second_source}
 use Rattle.rrs_trace.specs.Traced.{Traces, traced_reads, traced_writes}
-use Rattle.rrs_trace.specs.HartRecords.{whole_of, first_of_layer, second_of_layer, HasSourcesIn, HasSourcesByHalves, IsWhole, IsWholeByHalves, HasAccess, bits_fetched, bits_at}
+use Rattle.rrs_trace.specs.HartRecords.{whole_of, first_of_layer, second_of_layer, HasSourcesIn, HasSourcesByHalves, IsWhole, IsWholeByHalves, Tells, Sees, HasAccess, bits_fetched, bits_at}
 
 -- ---- accesses of a traced memory after the fetch
 
@@ -75,8 +78,29 @@ module _ {M : Type 0} (reads : M → ℕ → MemAccessSize → M → Option ℕ 
 pub words_at : (p : HartProfile) (s : State) → p.compressed ≡ false → bits_at p s ≡ next_word s
 words_at p s words = ap (λ b. if b then bits_fetched (fetched s.bytes s.pc) else next_word s) words
 
-pub halves_at : (p : HartProfile) (s : State) → p.compressed ≡ true → bits_at p s ≡ bits_fetched (fetched s.bytes s.pc)
+halves_at : (p : HartProfile) (s : State) → p.compressed ≡ true → bits_at p s ≡ bits_fetched (fetched s.bytes s.pc)
 halves_at p s halves = ap (λ b. if b then bits_fetched (fetched s.bytes s.pc) else next_word s) halves
+
+in_words : (p : HartProfile) (s : State) → p.compressed ≡ false → fetched_in p s.bytes s.pc ≡ word_fetched s.bytes s.pc
+in_words p s words = ap (λ b. if b then fetched s.bytes s.pc else word_fetched s.bytes s.pc) words
+
+in_halves : (p : HartProfile) (s : State) → p.compressed ≡ true → fetched_in p s.bytes s.pc ≡ fetched s.bytes s.pc
+in_halves p s halves = ap (λ b. if b then fetched s.bytes s.pc else word_fetched s.bytes s.pc) halves
+
+next_of : (b : Bool) (pc : ℕ) (o : Option ℕ) → (if b then o else None) ≡ bits_fetched (if b then whole pc o else Err (AlignmentFault pc))
+next_of true pc None = refl
+next_of true pc (Some w) = refl
+next_of false pc o = refl
+
+next_in : (p : HartProfile) (s : State) → p.compressed ≡ false → next_word s ≡ bits_fetched (fetched_in p s.bytes s.pc)
+next_in p s words = next_of (s.pc % 4 == 0) s.pc (little_endian s.bytes s.pc 4) ∙ sym (ap bits_fetched (in_words p s words))
+
+bits_by : (p : HartProfile) (s : State) (b : Bool) → p.compressed ≡ b → bits_at p s ≡ bits_fetched (fetched_in p s.bytes s.pc)
+bits_by p s true halves = halves_at p s halves ∙ sym (ap bits_fetched (in_halves p s halves))
+bits_by p s false words = words_at p s words ∙ next_in p s words
+
+pub bits_in : (p : HartProfile) (s : State) → bits_at p s ≡ bits_fetched (fetched_in p s.bytes s.pc)
+bits_in p s = bits_by p s p.compressed refl
 
 -- ---- of a row, and of an instruction of a layer
 
@@ -104,6 +128,7 @@ aligned_one x row f a s r = swap_one x row f a s (little_endian s.bytes a 4)
 
 layer_one : (x : Access) (i : LayerInstruction) (s : State) (r : Option ℕ) → AsOne x (layer_accesses i s r)
 layer_one x (System i) s r = refl
+layer_one x (Bits i) s r = refl
 layer_one x (Atomic i) s r =
     if_one x (reg s i.fields.rs1 % 4 == 0) _ _ (aligned_one x i.row i.fields (reg s i.fields.rs1) s r) refl
 
@@ -135,7 +160,7 @@ hart_one p s xs words (LayerAccesses w i at are) whole = behind (fetch s.state) 
 hart_one p s xs words (ByteAccesses w row f a o at are) whole = absurd (whole w row f a o at)
 hart_one p s xs words (HalvesAccesses halves of) whole = absurd (not_halves p words halves)
 
-pub seen_as : (p : HartProfile) (s : Hart) (xs ys : List Access) (m : MemoryAccess) → p.compressed ≡ false → AccessesOfHart p s (fetch s.state ∷ xs)
+seen_as : (p : HartProfile) (s : Hart) (xs ys : List Access) (m : MemoryAccess) → p.compressed ≡ false → AccessesOfHart p s (fetch s.state ∷ xs)
     → m ≡ followed_by no_access xs → AccessesOfHart p s ys → IsWhole p s.state → m ≡ after_fetch ys
 seen_as p s xs ys m words these is others whole =
     is ∙ hart_one p s xs words these whole ∙ ap after_fetch (AccessesOfHart-unique p s (fetch s.state ∷ xs) ys these others)
@@ -171,7 +196,7 @@ halves_one p s xs ys (FetchAndLayer x i is none layers are) same whole =
     let rest = same_rest (fetch_reads s.state.bytes s.state.pc) xs _ (sym same ∙ are) in
     subst (AsOne (fetch s.state)) (sym rest) (layer_one (fetch s.state) i (cleared s.state) s.reserved)
 
-pub seen_in_halves : (p : HartProfile) (s : Hart) (xs later : List Access) (m : MemoryAccess)
+seen_in_halves : (p : HartProfile) (s : Hart) (xs later : List Access) (m : MemoryAccess)
     → AccessesOfHalves p s (fetch_reads s.state.bytes s.state.pc ++ xs) → m ≡ followed_by no_access xs
     → AccessesOfHalves p s (fetch_reads s.state.bytes s.state.pc ++ later) → IsWholeByHalves p s.state → m ≡ later_access later
 seen_in_halves p s xs later m these is others whole =
@@ -179,13 +204,33 @@ seen_in_halves p s xs later m these is others whole =
     is ∙ halves_one p s xs _ these refl whole
     ∙ ap later_access (same_rest reads xs later (AccessesOfHalves-unique p s (reads ++ xs) (reads ++ later) these others))
 
+of_halves : (p : HartProfile) (s : Hart) (xs : List Access) → p.compressed ≡ true → AccessesOfHart p s xs → AccessesOfHalves p s xs
+of_halves p s xs halves (KitAccesses kits of) = absurd (not_halves p kits.words halves)
+of_halves p s xs halves (LayerAccesses w i at are) = absurd (not_halves p at.words halves)
+of_halves p s xs halves (ByteAccesses w row f a o at are) = absurd (not_halves p at.words halves)
+of_halves p s xs halves (HalvesAccesses _ of) = of
+
+pub seen_behind : (p : HartProfile) (s : Hart) (x : Encoding) (xs : List Access) (m : MemoryAccess) → fetched_in p s.state.bytes s.state.pc ≡ Ok x
+    → AccessesOfHart p s (fetch_reads_in p s.state.bytes s.state.pc ++ xs) → m ≡ followed_by no_access xs → Sees p s m
+seen_behind p s x xs m there these is =
+    let bytes = s.state.bytes in
+    let pc = s.state.pc in
+    record {
+      by_words = λ ys words others whole.
+          seen_as p s xs ys m words
+          (subst (λ reads. AccessesOfHart p s (reads ++ xs)) (reads_by_words p bytes pc words (fetched_by_words p bytes pc x words there).0) these) is others whole;
+      by_halves = λ later halves others whole.
+          seen_in_halves p s xs later m
+          (of_halves p s _ halves (subst (λ reads. AccessesOfHart p s (reads ++ xs)) (reads_by_halves p bytes pc halves) these)) is others whole;
+    }
+
 -- ---- the access of a step
 
 whole_layer : (p : HartProfile) (s : State) (w : ℕ) (i : LayerInstruction) → LayerAt p s w i → IsWhole p s
 whole_layer p s w i at = λ w' row f a o bytes.
     at.outside row f (subst (λ x. Decodes x row f) (same_Some _ _ (sym bytes.fetched ∙ at.fetched)) bytes.decoded)
 
-pub access_seen : (p : HartProfile) (s : Hart) (m : MemoryAccess) (told : Option ByteAccess) → p.compressed ≡ false → told ≡ None → TellsBytes p s.state told
+access_seen : (p : HartProfile) (s : Hart) (m : MemoryAccess) (told : Option ByteAccess) → p.compressed ≡ false → told ≡ None → TellsBytes p s.state told
     → ((ys : List Access) → AccessesOfHart p s ys → IsWhole p s.state → m ≡ after_fetch ys) → HasAccess p s (Ok tt) m
 access_seen p s m told words none tells seen = record {
   of_fault = tt;
@@ -196,7 +241,7 @@ access_seen p s m told words none tells seen = record {
   halves_by_bytes = λ x row f a o ok halves is stands at. absurd (not_halves p words halves);
 }
 
-pub access_told : (p : HartProfile) (s : Hart) (m : MemoryAccess) (told : Option ByteAccess) (x : ByteAccess) → p.compressed ≡ false → told ≡ Some x
+access_told : (p : HartProfile) (s : Hart) (m : MemoryAccess) (told : Option ByteAccess) (x : ByteAccess) → p.compressed ≡ false → told ≡ Some x
     → TellsBytes p s.state told → m ≡ whole_of x → HasAccess p s (Ok tt) m
 access_told p s m told x words some tells is = record {
   of_fault = tt;
@@ -210,7 +255,7 @@ access_told p s m told x words some tells is = record {
 }
 
 -- by half-words
-pub halves_seen : (p : HartProfile) (s : Hart) (m : MemoryAccess) (told : Option ByteAccess) → p.compressed ≡ true → told ≡ None → TellsHalves p s.state told
+halves_seen : (p : HartProfile) (s : Hart) (m : MemoryAccess) (told : Option ByteAccess) → p.compressed ≡ true → told ≡ None → TellsHalves p s.state told
     → ((later : List Access) → AccessesOfHalves p s (fetch_reads s.state.bytes s.state.pc ++ later) → IsWholeByHalves p s.state → m ≡ later_access later)
     → HasAccess p s (Ok tt) m
 halves_seen p s m told halves none tells seen = record {
@@ -235,7 +280,7 @@ told_not_whole p s told y xs some tells x there (FetchAndRow x' row f later is s
 told_not_whole p s told y xs some tells x there (FetchAndLayer x' i is none layers are) whole =
     none-some y (sym (tells.of_others x' is none) ∙ some)
 
-pub halves_told : (p : HartProfile) (s : Hart) (m : MemoryAccess) (told : Option ByteAccess) (y : ByteAccess) (x : Encoding) → p.compressed ≡ true
+halves_told : (p : HartProfile) (s : Hart) (m : MemoryAccess) (told : Option ByteAccess) (y : ByteAccess) (x : Encoding) → p.compressed ≡ true
     → fetched s.state.bytes s.state.pc ≡ Ok x → told ≡ Some y → TellsHalves p s.state told → m ≡ whole_of y → HasAccess p s (Ok tt) m
 halves_told p s m told y x halves there some tells is = record {
   of_fault = tt;
@@ -258,19 +303,38 @@ access_fault p s e m is = record {
   halves_by_bytes = λ x row f a o ok halves there stands at. absurd (cc (ok));
 }
 
-pub within_told : (p : HartProfile) (s : State) (told : Result (Option ByteAccess) InstructionException) → IfOk told (TellsBytes p s)
+-- of a hart that fetches words or half-words
+seen_by : (p : HartProfile) (s : Hart) (m : MemoryAccess) (told : Option ByteAccess) (b : Bool) → p.compressed ≡ b → told ≡ None → Tells p s.state told → Sees p s m
+    → HasAccess p s (Ok tt) m
+seen_by p s m told true halves none tells sees =
+    halves_seen p s m told halves none (tells.by_halves halves) (λ later of whole. sees.by_halves later halves of whole)
+seen_by p s m told false words none tells sees = access_seen p s m told words none (tells.by_words words) (λ ys of whole. sees.by_words ys words of whole)
+
+pub seen_alone : (p : HartProfile) (s : Hart) (m : MemoryAccess) (told : Option ByteAccess) → told ≡ None → Tells p s.state told → Sees p s m → HasAccess p s (Ok tt) m
+seen_alone p s m told none tells sees = seen_by p s m told p.compressed refl none tells sees
+
+told_by : (p : HartProfile) (s : Hart) (m : MemoryAccess) (told : Option ByteAccess) (y : ByteAccess) (x : Encoding) (b : Bool) → p.compressed ≡ b
+    → fetched_in p s.state.bytes s.state.pc ≡ Ok x → told ≡ Some y → Tells p s.state told → m ≡ whole_of y → HasAccess p s (Ok tt) m
+told_by p s m told y x true halves there some tells is =
+    halves_told p s m told y x halves (sym (in_halves p s.state halves) ∙ there) some (tells.by_halves halves) is
+told_by p s m told y x false words there some tells is = access_told p s m told y words some (tells.by_words words) is
+
+pub told_of_bytes : (p : HartProfile) (s : Hart) (m : MemoryAccess) (told : Option ByteAccess) (y : ByteAccess) (x : Encoding)
+    → fetched_in p s.state.bytes s.state.pc ≡ Ok x → told ≡ Some y → Tells p s.state told → m ≡ whole_of y → HasAccess p s (Ok tt) m
+told_of_bytes p s m told y x there some tells is = told_by p s m told y x p.compressed refl there some tells is
+
+within_by : (p : HartProfile) (s : State) (told : Option ByteAccess) (b : Bool) → p.compressed ≡ b → Tells p s told → IfSome told (λ y. y.size ≤ 4)
+within_by p s told true halves tells = (tells.by_halves halves).within
+within_by p s told false words tells = (tells.by_words words).within
+
+pub within_told : (p : HartProfile) (s : State) (told : Result (Option ByteAccess) InstructionException) → IfOk told (Tells p s)
     → IfOk told (λ x. IfSome x (λ y. y.size ≤ 4))
 within_told p s (Err e) tells = tt
-within_told p s (Ok told) tells = tells.within
-
-pub within_halves : (p : HartProfile) (s : State) (told : Result (Option ByteAccess) InstructionException) → IfOk told (TellsHalves p s)
-    → IfOk told (λ x. IfSome x (λ y. y.size ≤ 4))
-within_halves p s (Err e) tells = tt
-within_halves p s (Ok told) tells = tells.within
+within_told p s (Ok told) tells = within_by p s told p.compressed refl tells
 
 -- ---- the source registers
 
-pub sources_unfetched : (p : HartProfile) (word : Option ℕ) → word ≡ None → HasSourcesIn p word 0 0
+sources_unfetched : (p : HartProfile) (word : Option ℕ) → word ≡ None → HasSourcesIn p word 0 0
 sources_unfetched p word none = record {
   of_row = λ w row f is decodes. absurd (none-some w (sym none ∙ is));
   of_layer = λ w i is outside of. absurd (none-some w (sym none ∙ is));
@@ -278,7 +342,7 @@ sources_unfetched p word none = record {
   of_none = λ _. (refl, refl);
 }
 
-pub sources_fetched : (p : HartProfile) (word : Option ℕ) (w rs1 rs2 : ℕ) → word ≡ Some w
+sources_fetched : (p : HartProfile) (word : Option ℕ) (w rs1 rs2 : ℕ) → word ≡ Some w
     → ((row : Row) (f : Fields) → Decodes w row f → (rs1 ≡ first_source f) × (rs2 ≡ second_source f))
     → ((i : LayerInstruction) → IsIllegal w → IsOfProfile p w i → (rs1 ≡ first_of_layer i) × (rs2 ≡ second_of_layer i))
     → (IsIllegal w → ((i : LayerInstruction) → ¬ IsOfProfile p w i) → (rs1 ≡ 0) × (rs2 ≡ 0))
@@ -295,7 +359,7 @@ sources_fetched p word w rs1 rs2 is of_row of_layer of_illegal = record {
 }
 
 -- of an encoding
-pub sources_not_fetched : (p : HartProfile) (o : Result Encoding InstructionException) (e : InstructionException) → o ≡ Err e → HasSourcesByHalves p o 0 0
+sources_not_fetched : (p : HartProfile) (o : Result Encoding InstructionException) (e : InstructionException) → o ≡ Err e → HasSourcesByHalves p o 0 0
 sources_not_fetched p o e none = record {
   of_row = λ x row f is stands. absurd (not_both x e o is none);
   of_layer = λ x i is outside of. absurd (not_both x e o is none);
@@ -303,7 +367,7 @@ sources_not_fetched p o e none = record {
   of_none = λ e' is. (refl, refl);
 }
 
-pub sources_by_halves : (p : HartProfile) (o : Result Encoding InstructionException) (x : Encoding) (rs1 rs2 : ℕ) → o ≡ Ok x
+sources_by_halves : (p : HartProfile) (o : Result Encoding InstructionException) (x : Encoding) (rs1 rs2 : ℕ) → o ≡ Ok x
     → ((row : Row) (f : Fields) → StandsFor x row f → (rs1 ≡ first_source f) × (rs2 ≡ second_source f))
     → ((i : LayerInstruction) → IsNoRow x → IsLayers p x i → (rs1 ≡ first_of_layer i) × (rs2 ≡ second_of_layer i))
     → (IsIllegalIn p x → (rs1 ≡ 0) × (rs2 ≡ 0))
@@ -316,6 +380,38 @@ sources_by_halves p o x rs1 rs2 is of_row of_layer of_illegal = record {
   of_illegal = λ y there illegal. of_illegal (subst (IsIllegalIn p) (same_Ok y x o there is) illegal);
   of_none = λ e none. absurd (not_both x e o is none);
 }
+
+-- those of what the hart fetches
+pub word_sources_unfetched : (p : HartProfile) (s : State) (e : InstructionException) → p.compressed ≡ false → fetched_in p s.bytes s.pc ≡ Err e
+    → HasSourcesIn p (next_word s) 0 0
+word_sources_unfetched p s e words none = sources_unfetched p (next_word s) (next_in p s words ∙ ap bits_fetched none)
+
+pub halves_sources_unfetched : (p : HartProfile) (s : State) (e : InstructionException) → p.compressed ≡ true → fetched_in p s.bytes s.pc ≡ Err e
+    → HasSourcesByHalves p (fetched s.bytes s.pc) 0 0
+halves_sources_unfetched p s e halves none = sources_not_fetched p (fetched s.bytes s.pc) e (sym (in_halves p s halves) ∙ none)
+
+whole_long : (b : Bool) (pc : ℕ) (o : Option ℕ) (x : Encoding) → (if b then whole pc o else Err (AlignmentFault pc)) ≡ Ok x → x ≡ Long (bits_of x)
+whole_long true pc None x is = absurd (cc (is))
+whole_long true pc (Some w) x is =
+    let long : x ≡ Long w = cc (is) in
+    long ∙ ap (λ y. Long (bits_of y)) (sym long)
+whole_long false pc o x is = absurd (cc (is))
+
+module _ (p : HartProfile) (s : State) (x : Encoding) (rs1 rs2 : ℕ) (there : fetched_in p s.bytes s.pc ≡ Ok x)
+    (of_row : (row : Row) (f : Fields) → StandsFor x row f → (rs1 ≡ first_source f) × (rs2 ≡ second_source f))
+    (of_layer : (i : LayerInstruction) → IsNoRow x → IsLayers p x i → (rs1 ≡ first_of_layer i) × (rs2 ≡ second_of_layer i))
+    (of_illegal : IsIllegalIn p x → (rs1 ≡ 0) × (rs2 ≡ 0)) where
+  pub word_sources : p.compressed ≡ false → HasSourcesIn p (next_word s) rs1 rs2
+  word_sources words =
+      let long = whole_long (s.pc % 4 == 0) s.pc (little_endian s.bytes s.pc 4) x (sym (in_words p s words) ∙ there) in
+      sources_fetched p (next_word s) (bits_of x) rs1 rs2 (next_in p s words ∙ ap bits_fetched there)
+      (λ row f decodes. of_row row f (subst (λ y. StandsFor y row f) (sym long) decodes))
+      (λ i outside of. of_layer i (subst IsNoRow (sym long) outside) (subst (λ y. IsLayers p y i) (sym long) of))
+      (λ outside other. of_illegal (subst (IsIllegalIn p) (sym long) (record { no_row = outside; no_layer = other })))
+
+  pub halves_sources : p.compressed ≡ true → HasSourcesByHalves p (fetched s.bytes s.pc) rs1 rs2
+  halves_sources halves =
+      sources_by_halves p (fetched s.bytes s.pc) x rs1 rs2 (sym (in_halves p s halves) ∙ there) of_row of_layer of_illegal
 
 -- those of the word of a step
 pub record Sources (p : HartProfile) (o : Option ℕ) : Type 0 where

@@ -10,14 +10,17 @@ use Rattle.rrs_lib.specs.declared.instruction_executor.InstructionException.{Ins
 use Rattle.rrs_lib.specs.Machine.{State, Outcome, reg}
 use Rattle.rrs_lib.specs.Steps.{StepAnswer, next_word, cleared}
 use Rattle.rrs_lib.specs.Accesses.{Access, AccessesOf, fetch}
+use Rattle.rrs_words.specs.declared.bits.BitOperand.{BitOperand}
+use Rattle.rrs_words.specs.declared.bits.BitOperand.TheVariants.{Register}
+use Rattle.rrs_words.specs.BitInstructions.{bit_table}
 use Rattle.rrs_words.specs.declared.layers.LayerInstruction.{LayerInstruction}
-use Rattle.rrs_words.specs.declared.layers.LayerInstruction.TheVariants.{System, Atomic}
+use Rattle.rrs_words.specs.declared.layers.LayerInstruction.TheVariants.{System, Atomic, Bits}
 use Rattle.rrs_hart.specs.declared.bytes.ByteAccess.{ByteAccess}
-use Rattle.rrs_hart.specs.declared.profile.HartProfile.{HartProfile}
+use Rattle.rrs_words.specs.declared.csrs.HartProfile.{HartProfile}
 use Rattle.rrs_hart.specs.declared.halves.Encoding.{Encoding}
 use Rattle.rrs_hart.specs.Anywhere.{told_anywhere}
-use Rattle.rrs_hart.specs.Harts.{Hart, layer_accesses, IsOfProfile, LayerAt, BytesAt, IsKits}
-use Rattle.rrs_hart.specs.Halves.{bits_of, fetched, fetch_reads, StandsFor, IsNoRow, IsLayers, IsIllegalIn, IsCarriedOut, IsNotCarriedOut, AccessesOfHalves}
+use Rattle.rrs_hart.specs.Harts.{Hart, layer_accesses, IsOfProfile, LayerAt, BytesAt, IsKits, TellsBytes, AccessesOfHart}
+use Rattle.rrs_hart.specs.Halves.{bits_of, fetched, fetch_reads, StandsFor, IsNoRow, IsLayers, IsIllegalIn, IsCarriedOut, IsNotCarriedOut, AccessesOfHalves, TellsHalves}
 use Rattle.rrs_trace.specs.declared.traced.MemoryAccess.{MemoryAccess}
 use Rattle.rrs_trace.specs.declared.retired.Retired.{Retired}
 use Rattle.rrs_trace.specs.Retired.{no_access, later_access, after_fetch, first_source, second_source, last_of, is_fault}
@@ -56,6 +59,19 @@ abbrev pub IsWholeByHalves : HartProfile → State → Type 0
 IsWholeByHalves p s = (x : Encoding) (row : Row) (f : Fields)
     → fetched s.bytes s.pc ≡ Ok x → StandsFor x row f → IsNotCarriedOut p row f (cleared s)
 
+-- what is told of a step from s that is Ok: of a load or a store by bytes its access
+pub record Tells (p : HartProfile) (s : State) (told : Option ByteAccess) : Type 0 where
+  pub by_words : p.compressed ≡ false → TellsBytes p s told
+  pub by_halves : p.compressed ≡ true → TellsHalves p s told
+
+-- what is seen of a step from s where it makes none by bytes
+pub record Sees (p : HartProfile) (s : Hart) (mem : MemoryAccess) : Type 0 where
+  pub by_words : (accesses : List Access) → p.compressed ≡ false
+      → AccessesOfHart p s accesses → IsWhole p s.state → mem ≡ after_fetch accesses
+  pub by_halves : (later : List Access) → p.compressed ≡ true
+      → AccessesOfHalves p s (fetch_reads s.state.bytes s.state.pc ++ later)
+      → IsWholeByHalves p s.state → mem ≡ later_access later
+
 -- The load or the store of a step from s: none of a step that raises an exception.
 pub record HasAccess (p : HartProfile) (s : Hart) (answer : StepAnswer) (mem : MemoryAccess)
     : Type 0 where
@@ -86,10 +102,17 @@ pub record HasAccess (p : HartProfile) (s : Hart) (answer : StepAnswer) (mem : M
 abbrev pub first_of_layer : LayerInstruction → ℕ
 first_of_layer (System i) = 0
 first_of_layer (Atomic i) = i.fields.rs1
+first_of_layer (Bits i) = i.fields.rs1
+
+-- the number in the place of rs2, where it is that of a register
+abbrev pub second_of_bits : BitOperand → ℕ → ℕ
+second_of_bits Register n = n
+second_of_bits _ n = 0
 
 abbrev pub second_of_layer : LayerInstruction → ℕ
 second_of_layer (System i) = 0
 second_of_layer (Atomic i) = i.fields.rs2
+second_of_layer (Bits i) = second_of_bits (bit_table i.row).operand i.fields.rs2
 
 -- the source registers of a word: 0 where there is none, or it is no instruction of the hart
 pub record HasSourcesIn (p : HartProfile) (word : Option ℕ) (rs1 rs2 : ℕ) : Type 0 where

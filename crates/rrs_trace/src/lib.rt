@@ -2,7 +2,8 @@
 //!
 //! [step_retired] makes a step and tells what it retired, in the shape of RVFI, the RISC-V Formal
 //! Interface, and [step_retired_parts] does so of a hart that is kept in another layout.
-//! [step_hart_retired] does so of a hart with a profile.
+//! [step_hart_retired] does so of a hart with a profile, and [execute_in_seen] and [sources_in] are
+//! parts of it, for a caller that looks at the instruction in between.
 //! [TracedMemory] is the memory under all three, which keeps the latest access that is no fetch.
 //! [run_until] makes steps until the pc is one of some addresses, and [run_until_cached] does so
 //! over a memory that keeps its decoded words. [request] and [complete] execute an instruction
@@ -17,7 +18,6 @@
 
 #![tactic(auto)]
 
-mod halves_retired;
 mod hart_retired;
 mod outside;
 mod registers;
@@ -26,7 +26,7 @@ mod snapshot;
 mod stops;
 mod traced;
 
-pub use hart_retired::step_hart_retired;
+pub use hart_retired::{execute_in_seen, sources_in, step_hart_retired};
 pub use outside::{
     DataRequest, complete, complete_load, complete_parts, complete_store, request, request_parts,
 };

@@ -4,7 +4,7 @@ use Rattle.rrs_instruction.specs.Instructions.{row_of, fields_of}
 use Rattle.rrs_hart.proofs.HalvesSteps.{one_row_stands, one_layer_stands}
 use Rattle.rrs_trace.specs.Retired.{first_source, second_source}
 use Rattle.rrs_trace.specs.HartRecords.{first_of_layer, second_of_layer}
-use Rattle.rrs_trace.proofs.halves_retired.sources_in.Goals as goal
+use Rattle.rrs_trace.proofs.hart_retired.sources_in.Goals as goal
 
 -- a row
 pub returns-in-Some-clause-of_row : goal.returns-in-Some-clause-of_row
