@@ -8,3 +8,4 @@ mod Remembering
 mod Keeping
 mod Carrying
 mod Returning
+mod Forgetting

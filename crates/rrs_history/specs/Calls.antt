@@ -1,6 +1,6 @@
 -- Calls of the environment that can be taken back (RISC-V unprivileged specification, "Environment
 -- Call and Breakpoints"): a step that is an ecall is served, and kept with what the call changed.
-use Rattle.std.specs.Prelude.{◌≡◌, ℕ, ◌+◌, ◌≤◌, ◌⊎◌, List, [], ◌∷◌, ◌++◌, length, take, Bool, true, false, Option, Some, None, Result, Ok, Err}
+use Rattle.std.specs.Prelude.{◌≡◌, ℕ, ◌+◌, ◌≤◌, ◌⊎◌, List, [], ◌∷◌, ◌++◌, length, take, Bool, true, false, Option, Some, None, Result, Ok, Err, OnOk, OnErr}
 use Rattle.std.specs.Bool.{OnTrue, OnFalse}
 use Rattle.rrs_lib.specs.declared.MemAccessSize.{MemAccessSize}
 use Rattle.rrs_lib.specs.declared.HartState.{HartState}
@@ -8,7 +8,9 @@ use Rattle.rrs_lib.specs.declared.instruction_executor.InstructionException.{Ins
 use Rattle.rrs_lib.specs.declared.instruction_executor.InstructionException.TheVariants.{EnvironmentCall}
 use Rattle.rrs_lib.specs.Bytes.{ByteMap}
 use Rattle.rrs_lib.specs.Machine.{State, state_of}
-use Rattle.rrs_lib.specs.Steps.{Step}
+use Rattle.rrs_lib.specs.Steps.{Step, StepAnswer}
+use Rattle.rrs_words.specs.declared.csrs.HartProfile.{HartProfile}
+use Rattle.rrs_hart.specs.Harts.{Hart, hart_with, HartStep, AccessesOfHart}
 use Rattle.rrs_lib.specs.Accesses.{Access, Read, Write, Makes}
 use Rattle.rrs_fast.specs.Serving.{Relation, resumed}
 use Rattle.rrs_history.specs.declared.change.Change.{Change}
@@ -69,6 +71,24 @@ pub record RemembersCall (is_call : Bool) (old : History) (s : State) (new : His
   pub none_with_room : length (changes old) + 32 + accesses ≤ room old → forgotten ≡ []
   pub when_full : (forgotten ≡ []) ⊎ (room new ≤ length (changes new))
   pub room_kept : room new ≡ room old
+
+-- Nothing is kept: from s the history leads back to where it led before. The oldest states may be
+-- forgotten, if there was no room for as many changes as a call of so many accesses has.
+pub record StillLeads (old : History) (s : State) (new : History) (accesses : ℕ) : Type 0 where
+  pub forgotten : List State
+  pub leads_back : past (changes old) s ≡ past (changes new) s ++ forgotten
+  pub none_with_room : length (changes old) + 32 + accesses ≤ room old → forgotten ≡ []
+  pub room_kept : room new ≡ room old
+
+-- A step of a hart led from s to t by these accesses, those of the step with a read before each
+-- write. The history keeps it as a call, and where it raised an exception nothing.
+pub record KeepsHartStep (p : HartProfile) (old : History) (s : Hart) (answer : StepAnswer)
+    (new : History) (t : State) (accesses : List Access) : Type 0 where
+  pub of_step : List Access
+  pub are_its : AccessesOfHart p s of_step
+  pub with_reads : WithReads of_step accesses
+  pub kept : OnOk answer (RemembersCall true old s.state new t (length accesses))
+  pub stays : OnErr answer (StillLeads old s.state new (length accesses))
 
 -- ---- of the code
 
@@ -183,6 +203,23 @@ pub record IsRecorded {M E : Type 0} (bytes : M → ByteMap) (writable : M → �
   pub served : serves e (state_of hart (bytes a) (writable a))
       e' (state_of hart' (bytes a') (writable a')) of_call end
   pub with_reads : WithReads of_call noted
+  pub made : Makes reads writes noted a a'
+  pub carries : (x : HartState) → Carries (length noted) h (state_of x (bytes a) (writable a))
+      h' (state_of x (bytes a') (writable a'))
+
+-- A step takes a hart from the first to the second, and the memory that is lent makes its accesses
+-- with a read before each write. The history is carried on, but for the registers that it wrote.
+pub record IsStepRecorded {M : Type 0} (bytes : M → ByteMap) (writable : M → ℕ → Bool)
+    (reads : M → ℕ → MemAccessSize → M → Option ℕ → Type 0)
+    (writes : M → ℕ → MemAccessSize → ℕ → M → Bool → Type 0) (p : HartProfile)
+    (r : Option ℕ) (hart : HartState) (a : M) (h : History)
+    (r' : Option ℕ) (hart' : HartState) (a' : M) (h' : History) (answer : StepAnswer) : Type 0 where
+  pub of_step : List Access
+  pub noted : List Access
+  pub step : HartStep p (hart_with (state_of hart (bytes a) (writable a)) r)
+      (hart_with (state_of hart' (bytes a') (writable a')) r') answer
+  pub are_its : AccessesOfHart p (hart_with (state_of hart (bytes a) (writable a)) r) of_step
+  pub with_reads : WithReads of_step noted
   pub made : Makes reads writes noted a a'
   pub carries : (x : HartState) → Carries (length noted) h (state_of x (bytes a) (writable a))
       h' (state_of x (bytes a') (writable a'))

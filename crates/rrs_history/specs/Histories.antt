@@ -1,6 +1,6 @@
 -- The states that a history leads back to. A step goes from one state to one other (RISC-V
 -- unprivileged specification, RV32I, "Programmers' Model"), so the states before it are a list.
-use Rattle.std.specs.Prelude.{◌≡◌, ℕ, ◌<◌, ◌≤◌, if◌then◌else◌, Bool, List, [], ◌∷◌, ◌++◌, All, length, take, true, false}
+use Rattle.std.specs.Prelude.{◌≡◌, ℕ, ◌<◌, ◌≤◌, ◌⊎◌, if◌then◌else◌, Bool, List, [], ◌∷◌, ◌++◌, All, length, take, true, false}
 use Rattle.rrs_lib.specs.Machine.{State}
 use Rattle.rrs_lib.specs.Accesses.{Access}
 use Rattle.rrs_history.specs.declared.change.Change.{Change}
@@ -44,6 +44,12 @@ pub record Remembers (old : History) (s : State) (new : History) (t : State) : T
   pub at_most_one : length forgotten ≤ 1
   pub none_with_room : length (changes old) < room old → forgotten ≡ []
   pub room_kept : room new ≡ room old
+
+-- Of changes the latest step or call is forgotten: they led to a state, and these lead on from
+-- there; or they led to none, and all are gone.
+abbrev pub ForgetsOne : List Change → State → List Change → Type 0
+ForgetsOne old t new =
+    ((s : State) × (past old t ≡ s ∷ past new s)) ⊎ ((past old t ≡ []) × (new ≡ []))
 
 -- changes taken back, one after the other, newest first, and the accesses of that
 abbrev pub all_undone : List Change → State → State

@@ -155,7 +155,7 @@ fn serve_over<M: Memory, E: Environment>(
 }
 
 /// Keeps the registers that are not what they were.
-fn keep_registers(history: &mut History, before: &[u32; 32], after: &[u32; 32])
+pub(crate) fn keep_registers(history: &mut History, before: &[u32; 32], after: &[u32; 32])
     ensures { (s : State) → s.registers ≡ drop 1 before.now
         → Carries 31 history.old s history.new (record s { registers = drop 1 after.now }) }
 {
@@ -210,10 +210,11 @@ fn serve_noted<M: Memory, E: Environment>(
 
 /// The change with which a call begins of a hart that stands here. It leads to the state that it is
 /// in.
-fn begun(hart: &HartState) -> Change
+pub(crate) fn begun(hart: &HartState) -> Change
     ensures same { (bytes : ℕ → Option ℕ) (writable : ℕ → Bool)
         → undone result (state_of hart.now bytes writable) ≡ state_of hart.now bytes writable }
     ensures starts { IsTrue result.starts }
+    ensures of_call { IsTrue result.of_call }
 {
     Change {
         last: hart.last_register_write.unwrap_or(0),

@@ -8,7 +8,7 @@ ghost use Rattle.rrs_lib.specs.Executor.{state_in, KeepsTheRest};
 ghost use Rattle.rrs_lib.specs.Accesses.{Access, Makes, MakesExactly};
 ghost use Rattle.rrs_lib.specs.Steps.{Step, IsOnlyStep, LastIsRegister, cleared};
 ghost use Rattle.rrs_history.specs.Changes.{NotedAccessesOf};
-ghost use Rattle.rrs_history.specs.Histories.{changes, room, past, of_calls, Tells, Remembers, TakesBack};
+ghost use Rattle.rrs_history.specs.Histories.{changes, room, past, of_calls, Tells, Remembers, TakesBack, ForgetsOne};
 
 use crate::change::{Change, step_noted, undo};
 use circular_buffer::HeapCircularBuffer;
@@ -117,6 +117,18 @@ impl History {
     {
         let _room = self.room();
         let _oldest = self.ring.push_front(change);
+    }
+
+    /// Forgets the latest step or call, with all its changes, and takes nothing back.
+    pub(crate) fn forget_latest(&mut self)
+        ensures forgets { (t : State) → ForgetsOne (changes self.old) t (changes self.new) }
+        ensures room { room self.new ≡ room self.old }
+    {
+        'parts: while let Some(latest) = self.ring.pop_front() {
+            if latest.starts {
+                return;
+            }
+        }
     }
 
     /// A history with room for this many changes, which keeps the latest ones of this one: as many

@@ -5,8 +5,9 @@
 //! that it keeps, and [step_back] takes the latest one back. Registers, pc, last written register
 //! and bytes are then as they were before it, over every memory that keeps its laws. What a device
 //! keeps beside its bytes is not taken back. [step_served] is for a program that calls its
-//! environment: it keeps a call with what the call wrote, and [serve_recorded] keeps as a call what
-//! an environment does after a fault. [look_ahead] makes steps and takes them back.
+//! environment: it keeps a call with what the call wrote. [serve_recorded] keeps a call that is
+//! served where the hart stands, and [step_hart_recorded] a step of a hart with a profile.
+//! [look_ahead] makes steps and takes them back.
 //!
 //! What a change takes back is written in `specs/Changes.antt`, which states a history leads back
 //! to in `specs/Histories.antt`, and what a call adds in `specs/Calls.antt`.
@@ -16,6 +17,7 @@
 mod ahead;
 mod calls;
 mod change;
+mod harts;
 mod history;
 mod noting;
 mod recorder;
@@ -23,4 +25,5 @@ mod recorder;
 pub use ahead::look_ahead;
 pub use calls::{RecordedMemory, serve_recorded, step_served};
 pub use change::{Change, step_noted, step_noted_parts, undo, undo_parts};
+pub use harts::step_hart_recorded;
 pub use history::{History, newest, step_back, step_recorded};
