@@ -6,7 +6,7 @@ use Rattle.rrs_lib.specs.declared.instruction_executor.InstructionException.{Ins
 use Rattle.rrs_lib.specs.Steps.{StepAnswer}
 use Rattle.rrs_lib.specs.Accesses.{Access, answers_of_run, MakesExactly}
 use Rattle.rrs_lib.proofs.Making.{Makes-append}
-use Rattle.rrs_hart.specs.declared.profile.HartProfile.{HartProfile}
+use Rattle.rrs_words.specs.declared.csrs.HartProfile.{HartProfile}
 use Rattle.rrs_hart.specs.Chains.{Chain, ChainOk}
 use Rattle.rrs_hart.specs.Harts.{Hart, HartStep, HartRun, AccessesOfHartRun}
 use Rattle.rrs_hart.proofs.HartSteps.{HartStep-unique}

@@ -9,4 +9,3 @@ pub mod ProcessBytes
 pub mod ProcessAccesses
 pub mod Stretches
 pub mod Telling
-pub mod MendedSteps

@@ -7,7 +7,7 @@ use Rattle.rrs_lib.specs.Machine.{State}
 use Rattle.rrs_lib.specs.Steps.{StepAnswer}
 use Rattle.rrs_lib.specs.Accesses.{Access, answers_of_run}
 use Rattle.rrs_trace.specs.declared.retired.Retired.{Retired}
-use Rattle.rrs_hart.specs.declared.profile.HartProfile.{HartProfile}
+use Rattle.rrs_words.specs.declared.csrs.HartProfile.{HartProfile}
 use Rattle.rrs_hart.specs.Harts.{Hart, hart_with, HartStep, HartRun, AccessesOfHart, AccessesOfHartRun}
 use Rattle.rrs_fast.specs.declared.serving.Ending.{Ending}
 use Rattle.rrs_fast.specs.declared.serving.Ending.TheVariants.{Limit, Fault, Exit}

@@ -8,7 +8,6 @@ pub mod Protection
 pub mod InitialStack
 pub mod Layouts
 pub mod Images
-pub mod Mending
 pub mod Processes
 pub mod Watching
 pub mod Progress

@@ -13,7 +13,7 @@ use Rattle.rrs_exec.specs.Images.{IsImage, Filled}
 use Rattle.rrs_exec.specs.ProcessMemories.{lies_between, zeros_between}
 use Rattle.rrs_fast.specs.declared.serving.Ending.{Ending}
 use Rattle.rrs_fast.specs.Serving.{Relation, HartServed}
-use Rattle.rrs_hart.specs.declared.profile.HartProfile.{HartProfile}
+use Rattle.rrs_words.specs.declared.csrs.HartProfile.{HartProfile}
 use Rattle.rrs_hart.specs.Harts.{hart_with}
 use Rattle.rrs_linux.specs.declared.Heap.{Heap}
 use Rattle.rrs_linux.specs.declared.Process.{Process}
@@ -27,6 +27,9 @@ process_profile strict = record {
   fence_i = true;
   misaligned = not strict;
   compressed = false;
+  zba = true;
+  zbb = true;
+  zbs = true;
 }
 
 -- what the instructions of a hart lie in

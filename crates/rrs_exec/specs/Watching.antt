@@ -6,7 +6,7 @@ use Rattle.rrs_lib.specs.Bytes.{ByteMap}
 use Rattle.rrs_lib.specs.Accesses.{Access}
 use Rattle.rrs_lib.specs.Machine.{State}
 use Rattle.rrs_lib.specs.Steps.{StepAnswer}
-use Rattle.rrs_hart.specs.declared.profile.HartProfile.{HartProfile}
+use Rattle.rrs_words.specs.declared.csrs.HartProfile.{HartProfile}
 use Rattle.rrs_hart.specs.Harts.{Hart, hart_with, HartStep, AccessesOfHart}
 use Rattle.rrs_trace.specs.declared.retired.Retired.{Retired}
 use Rattle.rrs_trace.specs.HartRecords.{HartRetires}

@@ -13,15 +13,13 @@
 //! `specs/Processes.antt`: a run of a hart with a profile, of which [process_profile] is the usual
 //! one. [watch_process] runs a process so too, and shows each step to a [Watcher], as
 //! `specs/Watching.antt` says. Both tell a [Progress] of the steps, of which their contracts say
-//! nothing, and that of [InPieces] all. [mend] carries out the instruction of a fault of the kit's
-//! step, for a debugger.
+//! nothing, and that of [InPieces] all.
 
 #![tactic(auto)]
 
 mod image;
 mod layout;
 mod marks;
-mod mending;
 mod process;
 mod process_memory;
 mod progress;
@@ -32,7 +30,6 @@ mod watching;
 pub use image::{Image, ImageError, image_of, needed_memory};
 pub use layout::{Layout, layout_of};
 pub use marks::{PAGE_BYTES, PageRange, Protection, marks_of};
-pub use mending::mend;
 pub use process::{
     DECODED_WORDS, KeptMemory, LoadedProcess, ProcessEnd, WATCHED_WORDS, execute_process,
     load_process, process_profile, profile_for, serve_image, started,

@@ -48,8 +48,8 @@ pub struct ProcessEnd {
     pub pc: u32,
 }
 
-/// The layers that the hart of a process has where none are named: extension A, `fence.i`, and
-/// misaligned loads and stores unless these are strict.
+/// The layers that the hart of a process has where none are named: extension A, `fence.i`, Zba, Zbb
+/// and Zbs, and misaligned loads and stores unless these are strict.
 pub fn process_profile(strict: bool) -> HartProfile
     ensures { result ≡ process_profile strict }
 {
@@ -58,6 +58,9 @@ pub fn process_profile(strict: bool) -> HartProfile
         fence_i: true,
         misaligned: !strict,
         compressed: false,
+        zba: true,
+        zbb: true,
+        zbs: true,
     }
 }
 

@@ -3,7 +3,7 @@ use Rattle.std.specs.Prelude.{◌≡◌, ℕ, Bool, List, Option}
 use Rattle.rrs_lib.specs.Bytes.{ByteMap}
 use Rattle.rrs_exec.specs.declared.image.Image.{Image}
 use Rattle.rrs_exec.specs.Processes.{unit_of, Executing, IsLoaded, ServesImage, heap_of}
-use Rattle.rrs_hart.specs.declared.profile.HartProfile.{HartProfile}
+use Rattle.rrs_words.specs.declared.csrs.HartProfile.{HartProfile}
 use Rattle.rrs_fast.specs.declared.serving.Ending.{Ending}
 use Rattle.rrs_fast.specs.Serving.{Relation}
 use Rattle.rrs_linux.specs.declared.Process.{Process}
