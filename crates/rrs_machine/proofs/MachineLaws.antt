@@ -1,28 +1,27 @@
 -- Laws of a step with machine mode.
-use Rattle.std.proofs.Common.{◌≡◌, ◌≢◌, ℕ, ◌+◌, ◌%◌, ◌^◌, ◌==◌, ◌&&◌, Bool, true, false, if◌then◌else◌, Option, Some, None, Ok, Err, refl, sym, subst, ap, ◌∙◌}
+use Rattle.std.proofs.Common.{◌≡◌, ◌≢◌, ℕ, ◌+◌, ◌%◌, ◌^◌, ◌==◌, ◌&&◌, Bool, true, false, if◌then◌else◌, Option, Some, None, Ok, refl, sym, subst, ap, ◌∙◌}
 use Rattle.rrs_instruction.specs.declared.instruction_formats.IType.{IType}
-use Rattle.rrs_instruction.specs.declared.instruction_formats.RType.{RType}
 use Rattle.rrs_machine.specs.declared.csrs.CsrFile.{CsrFile}
 use Rattle.rrs_words.specs.declared.csrs.Csr.{Csr}
 use Rattle.rrs_words.specs.declared.csrs.Csr.TheVariants.{Mcycle, Mcycleh, Minstret, Minstreth}
 use Rattle.rrs_machine.specs.declared.csrs.Inputs.{Inputs}
 use Rattle.rrs_words.specs.declared.instructions.SystemRow.{SystemRow}
-use Rattle.rrs_words.specs.declared.atomics.AtomicRow.{AtomicRow}
-use Rattle.rrs_words.specs.declared.instructions.SystemRow.TheVariants.{Mret, Wfi, FenceI}
+use Rattle.rrs_words.specs.declared.instructions.SystemRow.TheVariants.{Mret, Wfi}
 use Rattle.rrs_machine.specs.declared.traps.Exception.TheVariants.{IllegalInstruction, InstructionMisaligned}
 use Rattle.rrs_machine.specs.declared.traps.Interrupt.{Interrupt}
 use Rattle.rrs_machine.specs.declared.machine.MachineAnswer.{MachineAnswer}
 use Rattle.rrs_machine.specs.declared.machine.MachineAnswer.TheVariants.{Retired, Waiting, Raised, Interrupted}
 use Rattle.rrs_instruction.specs.Words.{bit}
 use Rattle.rrs_lib.specs.Machine.{State}
-use Rattle.rrs_lib.specs.Steps.{Step, StepAnswer, next_word, cleared}
+use Rattle.rrs_hart.specs.Halves.{bits_of}
+use Rattle.rrs_hart.specs.Harts.{hart_with, HartStep}
+use Rattle.rrs_hart.proofs.HartFaults.{fault_keeps}
 use Rattle.rrs_words.specs.CsrNumbers.{is_read_only}
 use Rattle.rrs_machine.specs.Csrs.{mode_of, found_csr, csr_written, cycle_counted, instruction_counted, retired_file, counted_beside}
 use Rattle.rrs_words.specs.SystemInstructions.{csr_number, writes_csr}
-use Rattle.rrs_machine.specs.Traps.{ready_interrupt, trap_file, return_file, exception_of, exception_of_word}
-use Rattle.rrs_hart.specs.Atomics.{atomic_outcome}
-use Rattle.rrs_machine.specs.MachineSteps.{MachineState, MachineOutcome, ends, trapped, raises, accessed, csr_outcome, passed, wait_answer, is_permitted, permitted_outcome, system_outcome, reserving, opcode_like, atomic_ended, atomic_step, IsNoSystem, IsNoAtomic, Retires, Strays, Faults, Executes, Swaps, MachineStep, Interrupts, Proceeds}
-use Rattle.rrs_machine.proofs.AtomicSteps.{atomic_keeps}
+use Rattle.rrs_machine.specs.Traps.{ready_interrupt, trap_file, return_file, exception_of}
+use Rattle.rrs_machine.specs.MachineSteps.{MachineState, MachineOutcome, ends, trapped, raises, accessed, csr_outcome, passed, wait_answer, is_permitted, permitted_outcome, system_outcome, hart_in, with_hart, layers_of, IsNoSystem, Retires, Strays, Faults, Executes, MachineStep, Interrupts, Proceeds}
+use Rattle.rrs_machine.proofs.Counting.{retired_at}
 use Rattle.rrs_machine.specs.Laws.{KeepsValues, KeepsUnlessRetired, WritesNeither, instructions_after, cycles_after}
 
 -- ---- what a trap keeps
@@ -57,7 +56,6 @@ wait_keeps None s = record { registers_kept = refl; bytes_kept = refl; writable_
 permitted_keeps : (row : SystemRow) (f : IType) (w : ℕ) (i : Inputs) (s : MachineState) → Keeping s (permitted_outcome row f w i s)
 permitted_keeps Mret f w i s = tt
 permitted_keeps Wfi f w i s = wait_keeps (ready_interrupt s.csrs i) s
-permitted_keeps FenceI f w i s = tt
 permitted_keeps row f w i s = csr_keeps row f w (found_csr s.csrs (csr_number f)) i s
 
 refused_keeps : (b : Bool) (s : MachineState) (x y : MachineOutcome) → Keeping s x → Keeping s y → Keeping s (if b then x else y)
@@ -75,23 +73,27 @@ pub step_keeps : (i : Inputs) (s t : MachineState) (a : MachineAnswer) → Machi
 step_keeps i s t a (Interrupts x due after is) = by_answer a _ s.hart t.hart is (trap_keeps _ _ _ s t after)
 step_keeps i s t a (Proceeds none (Retires u step even after is)) = by_answer a Retired s.hart t.hart is tt
 step_keeps i s t a (Proceeds none (Strays u step odd after is)) = by_answer a _ s.hart t.hart is (trap_keeps _ _ _ s t after)
-step_keeps i s t a (Proceeds none (Faults u e step spares calm after is)) = by_answer a _ s.hart t.hart is (trap_keeps _ _ _ s t after)
-step_keeps i s t a (Proceeds none (Executes w row f h outside is leaves)) =
-    subst (Keeping s) (sym leaves) (system_keeps row f w i s)
-step_keeps i s t a (Proceeds none (Swaps w row f at leaves)) =
-    subst (Keeping s) (sym leaves) (atomic_keeps row f s at.is.1.in_range.0)
+step_keeps i s t a (Proceeds none (Faults u e k step spares kind after is)) =
+    let kept = fault_keeps (layers_of s) (hart_in s) u e step in
+    let keeps = subst (λ h. KeepsValues h t.hart) kept (trap_keeps _ _ _ (with_hart u s) t after) in
+    by_answer a _ s.hart t.hart is
+    (record { registers_kept = keeps.registers_kept; bytes_kept = keeps.bytes_kept; writable_kept = keeps.writable_kept })
+step_keeps i s t a (Proceeds none (Executes x row f there own leaves)) =
+    subst (Keeping s) (sym leaves) (system_keeps row f (bits_of x) i s)
 
--- ---- a step of the kit
+-- ---- a step of the hart
 
-pub step_of_kit : (i : Inputs) (s t : MachineState) (a : MachineAnswer) → MachineStep i s t a → a ≡ Retired → IsNoSystem s.hart
-    → IsNoAtomic s → Step s.hart t.hart (Ok tt)
-step_of_kit i s t a (Interrupts x due after is) retired spares calm = absurd (cc)
-step_of_kit i s t a (Proceeds none (Retires u step even after is)) retired spares calm =
-    subst (λ (x : MachineState). Step s.hart x.hart (Ok tt)) (sym after) step
-step_of_kit i s t a (Proceeds none (Strays u step odd after is)) retired spares calm = absurd (cc)
-step_of_kit i s t a (Proceeds none (Faults u e step spares' calm' after is)) retired spares calm = absurd (cc)
-step_of_kit i s t a (Proceeds none (Executes w row f h outside is leaves)) retired spares calm = absurd (spares w row f h outside is)
-step_of_kit i s t a (Proceeds none (Swaps w row f at leaves)) retired spares calm = absurd (calm w row f at)
+pub step_of_hart : (i : Inputs) (s t : MachineState) (a : MachineAnswer) → MachineStep i s t a → a ≡ Retired → IsNoSystem s
+    → HartStep (layers_of s) (hart_in s) (hart_in t) (Ok tt)
+step_of_hart i s t a (Interrupts x due after is) retired spares = absurd (cc)
+step_of_hart i s t a (Proceeds none (Retires u step lie after is)) retired spares =
+    let file = (with_hart u s).csrs in
+    let kept = ap (λ (x : CsrFile). x.reservation) (retired_at file) in
+    subst (λ (x : MachineState). HartStep (layers_of s) (hart_in s) (hart_in x) (Ok tt)) (sym after)
+    (subst (λ r. HartStep (layers_of s) (hart_in s) (hart_with u.state r) (Ok tt)) (sym kept) step)
+step_of_hart i s t a (Proceeds none (Strays u step odd after is)) retired spares = absurd (cc)
+step_of_hart i s t a (Proceeds none (Faults u e k step spares' kind after is)) retired spares = absurd (cc)
+step_of_hart i s t a (Proceeds none (Executes x row f there own leaves)) retired spares = absurd (spares x row f there own)
 
 -- ---- the counters
 
@@ -144,6 +146,9 @@ written-mcycle Minstret v f spares on = cycle-mcycle f on
 written-mcycle Minstreth v f spares on = cycle-mcycle f on
 written-mcycle _ v f spares on = retired-mcycle f on
 
+abbrev reserving : Option ℕ → CsrFile → CsrFile
+reserving r file = record file { reservation = r }
+
 -- a trap is taken
 abbrev IsTrap : MachineAnswer → Type 0
 IsTrap (Raised x) = Unit {0}
@@ -188,7 +193,6 @@ module _ (counter : CsrFile → ℕ) (after : MachineAnswer → ℕ → ℕ) (lo
       → Counts (permitted_outcome row f w i s)
   permitted_counts Mret f w i spares = at_return
   permitted_counts Wfi f w i spares = wait_counts (ready_interrupt s.csrs i)
-  permitted_counts FenceI f w i spares = at_retired s.csrs.reservation
   permitted_counts row f w i spares = csr_counts row f w (found_csr s.csrs (csr_number f)) i spares
 
   if_permitted : (b : Bool) (w : ℕ) (o : MachineOutcome) → Counts o → Counts (if b then o else raises (IllegalInstruction w) s)
@@ -201,33 +205,23 @@ module _ (counter : CsrFile → ℕ) (after : MachineAnswer → ℕ → ℕ) (lo
   system_counts row f w i spares =
       if_permitted (is_permitted row (mode_of s.csrs) s.csrs) w _ (permitted_counts row f w i spares)
 
-  ended_counts : (row : AtomicRow) (u : State) (r : Option ℕ) (a : StepAnswer) → Counts (atomic_ended row u (reserving r s.csrs) a)
-  ended_counts row u r (Ok v) = at_retired r
-  ended_counts row u r (Err e) =
-      at_trap r _ _ u.pc (Raised (exception_of_word (mode_of s.csrs) (opcode_like row) e)) tt
-
-  atomic_counts : (row : AtomicRow) (f : RType) → Counts (atomic_step row f s)
-  atomic_counts row f =
-      let o = atomic_outcome row f (cleared s.hart) s.csrs.reservation in
-      ended_counts row o.after o.reservation o.answer
-
-  trap_counts : (cause value target : ℕ) (t : MachineState) (a b : MachineAnswer) → t ≡ trapped cause value target s → a ≡ b → IsTrap b
-      → counter t.csrs ≡ after a (counter s.csrs)
-  trap_counts cause value target t a b leaves is trap =
-      ap (λ (x : MachineState). counter x.csrs) leaves ∙ at_trap s.csrs.reservation cause value s.hart.pc b trap ∙ ap (λ y. after y (counter s.csrs)) (sym is)
+  trap_counts : (r : Option ℕ) (cause value pc : ℕ) (t : MachineState) (a b : MachineAnswer)
+      → t.csrs ≡ cycle_counted (trap_file cause value pc (reserving r s.csrs)) → a ≡ b → IsTrap b → counter t.csrs ≡ after a (counter s.csrs)
+  trap_counts r cause value pc t a b leaves is trap =
+      ap counter leaves ∙ at_trap r cause value pc b trap ∙ ap (λ y. after y (counter s.csrs)) (sym is)
 
   step_counts : (i : Inputs) (t : MachineState) (a : MachineAnswer) → MachineStep i s t a → WritesNeither low high s
       → counter t.csrs ≡ after a (counter s.csrs)
-  step_counts i t a (Interrupts x due leaves is) spares = trap_counts _ _ _ t a (Interrupted x) leaves is tt
-  step_counts i t a (Proceeds none (Retires u step even leaves is)) spares =
-      ap (λ (x : MachineState). counter x.csrs) leaves ∙ at_retired s.csrs.reservation ∙ ap (λ y. after y (counter s.csrs)) (sym is)
+  step_counts i t a (Interrupts x due leaves is) spares =
+      trap_counts s.csrs.reservation _ _ _ t a (Interrupted x) (ap (λ (y : MachineState). y.csrs) leaves) is tt
+  step_counts i t a (Proceeds none (Retires u step lie leaves is)) spares =
+      ap (λ (x : MachineState). counter x.csrs) leaves ∙ at_retired u.reserved ∙ ap (λ y. after y (counter s.csrs)) (sym is)
   step_counts i t a (Proceeds none (Strays u step odd leaves is)) spares =
-      trap_counts _ _ _ t a (Raised (InstructionMisaligned u.pc)) leaves is tt
-  step_counts i t a (Proceeds none (Faults u e step spares' calm' leaves is)) spares =
-      trap_counts _ _ _ t a (Raised (exception_of (mode_of s.csrs) (next_word s.hart) e)) leaves is tt
-  step_counts i t a (Proceeds none (Executes w row f h outside is leaves)) spares =
-      subst Counts (sym leaves) (system_counts row f w i (λ csr. spares w row f csr h is))
-  step_counts i t a (Proceeds none (Swaps w row f at leaves)) spares = subst Counts (sym leaves) (atomic_counts row f)
+      trap_counts s.csrs.reservation _ _ _ t a (Raised (InstructionMisaligned u.state.pc)) (ap (λ (y : MachineState). y.csrs) leaves) is tt
+  step_counts i t a (Proceeds none (Faults u e k step spares' kind leaves is)) spares =
+      trap_counts u.reserved _ _ _ t a (Raised (exception_of (mode_of s.csrs) k e)) (ap (λ (y : MachineState). y.csrs) leaves) is tt
+  step_counts i t a (Proceeds none (Executes x row f there own leaves)) spares =
+      subst Counts (sym leaves) (system_counts row f (bits_of x) i (λ csr. spares x row f csr there own))
 
 -- minstret counts the instructions that retire
 pub step_minstret : (i : Inputs) (s t : MachineState) (a : MachineAnswer) → MachineStep i s t a → bit s.csrs.mcountinhibit 2 ≡ 0

@@ -1,193 +1,152 @@
 -- Each state has one step with machine mode, and one list of accesses.
-use Rattle.std.proofs.Common.{◌≡◌, ◌≢◌, ℕ, ◌%◌, List, [], ◌∷◌, ◌==◌, Bool, if◌then◌else◌, true, false, Option, Some, None, Ok, Err, refl, sym, subst, ap, ◌∙◌}
-use Rattle.std.proofs.lemmas.Bool.{eqb-true, eq-eqb}
+use Rattle.std.proofs.Common.{◌≡◌, ℕ, ◌&&◌, pos, List, Bool, if◌then◌else◌, true, false, Option, Some, None, Result, Ok, Err, refl, sym, subst, ap, ◌∙◌}
+use Rattle.std.proofs.lemmas.Bool.{false≢true}
 use Rattle.std.proofs.lemmas.Option.{none-some, same_Some}
 use Rattle.rrs_lib.specs.declared.instruction_executor.InstructionException.{InstructionException}
 use Rattle.rrs_lib.specs.declared.instruction_executor.InstructionException.TheVariants.{IllegalInstruction}
 use Rattle.rrs_instruction.specs.declared.instruction_formats.IType.{IType}
-use Rattle.rrs_instruction.specs.declared.instruction_formats.RType.{RType}
-use Rattle.rrs_machine.specs.declared.csrs.Inputs.{Inputs}
+use Rattle.rrs_instruction.specs.Table.{IsIllegal}
+use Rattle.rrs_lib.specs.Machine.{State, put}
+use Rattle.rrs_lib.specs.Steps.{Illegal, cleared}
+use Rattle.rrs_lib.specs.Accesses.{Access}
+use Rattle.rrs_lib.proofs.Keeping.{same_reg}
+use Rattle.rrs_words.specs.declared.csrs.Csr.{Csr}
+use Rattle.rrs_words.specs.declared.csrs.HartProfile.{HartProfile}
 use Rattle.rrs_words.specs.declared.instructions.SystemRow.{SystemRow}
-use Rattle.rrs_words.specs.declared.atomics.AtomicRow.{AtomicRow}
-use Rattle.rrs_machine.specs.declared.traps.Exception.{Exception}
-use Rattle.rrs_machine.specs.declared.csrs.CsrFile.{CsrFile}
-use Rattle.rrs_lib.specs.declared.MemAccessSize.{MemAccessSize}
-use Rattle.rrs_lib.specs.declared.MemAccessSize.TheVariants.{Word}
-use Rattle.rrs_machine.specs.declared.machine.MachineAnswer.{MachineAnswer}
-use Rattle.rrs_machine.specs.declared.machine.MachineAnswer.TheVariants.{Raised, Interrupted}
-use Rattle.rrs_machine.specs.declared.traps.Exception.TheVariants.{InstructionMisaligned}
-use Rattle.rrs_instruction.specs.Encodings.{Fields}
-use Rattle.rrs_instruction.specs.Table.{Row, Decodes, IsIllegal}
-use Rattle.rrs_instruction.proofs.Rows.{one_row_at_most}
-use Rattle.rrs_lib.specs.Bytes.{little_endian}
-use Rattle.rrs_lib.specs.Machine.{State}
-use Rattle.rrs_lib.specs.Steps.{Step, Illegal, next_word, cleared}
-use Rattle.rrs_lib.specs.Accesses.{Access, Makes, MakesExactly, read_if_aligned, fetch}
-use Rattle.rrs_lib.proofs.Stepping.{Step-unique}
-use Rattle.rrs_lib.proofs.Making.{AccessesOf-unique, AccessesOf-uncleared}
-use Rattle.rrs_machine.specs.Csrs.{mode_of, retired_file}
-use Rattle.rrs_words.specs.SystemInstructions.{IsSystem}
-use Rattle.rrs_machine.specs.Traps.{exception_of, exception_of_word, exception_of_fetch}
-use Rattle.rrs_machine.specs.MachineSteps.{MachineState, MachineOutcome, machine, raised, interrupted, system_outcome, IsAtomicOf, IsNoAtomic, atomic_step, InstructionStep, Retires, Strays, Faults, Executes, Swaps, MachineStep, Interrupts, Proceeds, AccessesOfInstruction, OfKit, OfAtomic, AccessesOfMachineStep, OfInterrupt, OfInstruction}
-use Rattle.rrs_hart.specs.Atomics.{accesses_of_atomic}
+use Rattle.rrs_words.specs.declared.instructions.SystemRow.TheVariants.{Mret, Wfi, FenceI}
+use Rattle.rrs_words.specs.declared.layers.LayerInstruction.{LayerInstruction}
+use Rattle.rrs_words.specs.declared.layers.LayerInstruction.TheVariants.{System, Atomic, Bits}
+use Rattle.rrs_words.specs.CsrNumbers.{is_read_only}
+use Rattle.rrs_words.specs.SystemInstructions.{has_immediate, writes_csr, csr_number}
 use Rattle.rrs_words.proofs.SystemRows.{system-unique}
-use Rattle.rrs_machine.proofs.AtomicSteps.{one_atomic, not_system}
+use Rattle.rrs_hart.specs.declared.halves.Encoding.{Encoding}
+use Rattle.rrs_hart.specs.declared.halves.Encoding.TheVariants.{Short, Long}
+use Rattle.rrs_hart.specs.Halves.{bits_of, fetched, NoInstruction}
+use Rattle.rrs_hart.specs.Harts.{Hart, hart_with, has_system, IsOfProfile, word_fetched, fetched_in, HartStep, OfKit, OfHalves}
+use Rattle.rrs_hart.proofs.OneLayer.{never_both, never_bits}
+use Rattle.rrs_hart.proofs.HalvesSteps.{same_Ok}
+use Rattle.rrs_hart.proofs.HartSteps.{next_stands, kits_illegal, HartStep-unique, HartStep-uncleared, AccessesOfHart-unique}
+use Rattle.rrs_hart.proofs.Fetches.{fetched_by_words}
+use Rattle.rrs_machine.specs.declared.csrs.CsrFile.{CsrFile}
+use Rattle.rrs_machine.specs.declared.csrs.Inputs.{Inputs}
+use Rattle.rrs_machine.specs.declared.traps.AccessKind.{AccessKind}
+use Rattle.rrs_machine.specs.declared.traps.AccessKind.TheVariants.{Fetch, Load, Store}
+use Rattle.rrs_machine.specs.declared.traps.Exception.{Exception}
+use Rattle.rrs_machine.specs.declared.traps.Exception.TheVariants.{InstructionMisaligned, IllegalInstruction as IllegalWord}
+use Rattle.rrs_machine.specs.declared.machine.MachineAnswer.{MachineAnswer}
+use Rattle.rrs_machine.specs.declared.machine.MachineAnswer.TheVariants.{Retired, Raised, Interrupted}
+use Rattle.rrs_machine.specs.Csrs.{mode_of, csr_value}
+use Rattle.rrs_machine.specs.Traps.{IsKind, exception_of}
+use Rattle.rrs_machine.specs.MachineSteps.{MachineState, MachineOutcome, machine, ends, raised, raises, interrupted, gone_on, file_updated, csr_outcome, is_permitted, permitted_outcome, system_outcome, hart_in, with_hart, layers_of, fetched_at, is_own, IsOwn, IsNoSystem, may_lie, retired, InstructionStep, Retires, Strays, Faults, Executes, MachineStep, Interrupts, Proceeds, AccessesOfMachineStep, OfInterrupt, OfInstruction}
 
--- a choice that gives something
-chosen : (b : Bool) (o : Option ℕ) (w : ℕ) → (if b then o else None) ≡ Some w → (b ≡ true) × (o ≡ Some w)
-chosen true o w h = (refl, h)
-chosen false o w h = absurd (none-some w h)
+-- ---- to the hart an instruction of machine mode is illegal
 
--- the word that is about to be executed stands at an aligned pc
-pub word_stands : (s : State) (w : ℕ) → next_word s ≡ Some w → (s.pc % 4 ≡ 0) × (little_endian s.bytes s.pc 4 ≡ Some w)
-word_stands s w h =
-    let parts = chosen (s.pc % 4 == 0) (little_endian s.bytes s.pc 4) w h in
-    (eqb-true (s.pc % 4) 0 parts.0, parts.1)
+own_system : (p : HartProfile) (row : SystemRow) → is_own row ≡ true → has_system p row ≡ true → ⊥
+own_system p FenceI own has = false≢true own
+own_system p _ own has = false≢true has
 
--- the step of the kit at an illegal instruction
-pub illegal_step : (s : State) (w : ℕ) → next_word s ≡ Some w → IsIllegal w → Step s (cleared s) (Err (IllegalInstruction s.pc w))
-illegal_step s w h outside =
-    let stands = word_stands s w h in
-    Illegal w stands.0 stands.1 outside refl refl
+no_layer : (p : HartProfile) (w : ℕ) (row : SystemRow) (f : IType) → IsOwn (Long w) row f → (i : LayerInstruction) → ¬ IsOfProfile p w i
+no_layer p w row f (outside, is, own) (System i) has =
+    let same = system-unique w i.row row i.fields f has.1 is in
+    own_system p row own (subst (λ x. has_system p x ≡ true) same.0 has.0)
+no_layer p w row f (outside, is, own) (Atomic i) has = never_both w i.row row i.fields f has.1 is
+no_layer p w row f (outside, is, own) (Bits i) has = never_bits w i.row row i.fields f has.1 is
 
--- a step does not both end well and with an exception
-not_both : (s u u' : State) (e : InstructionException) → Step s u (Ok tt) → Step s u' (Err e) → ⊥
+refused_by : (b : Bool) (p : HartProfile) (s : State) (r : Option ℕ) (w : ℕ) → p.compressed ≡ b → fetched_in p s.bytes s.pc ≡ Ok (Long w)
+    → IsIllegal w → ((i : LayerInstruction) → ¬ IsOfProfile p w i)
+    → HartStep p (hart_with s r) (hart_with (cleared s) r) (Err (IllegalInstruction s.pc w))
+refused_by true p s r w halves is outside none =
+    let there : fetched s.bytes s.pc ≡ Ok (Long w) =
+    subst (λ b. (if b then fetched s.bytes s.pc else word_fetched s.bytes s.pc) ≡ Ok (Long w)) halves is in
+    OfHalves halves (NoInstruction (Long w) there (record { no_row = outside; no_layer = none }) refl)
+refused_by false p s r w words is outside none =
+    let there = fetched_by_words p s.bytes s.pc (Long w) words is in
+    OfKit (kits_illegal p s w words (next_stands s w there.0 there.1) outside none) (Illegal w there.0 there.1 outside refl refl) refl
+
+pub refused : (s : MachineState) (x : Encoding) (row : SystemRow) (f : IType) → fetched_at s ≡ Ok x → IsOwn x row f
+    → HartStep (layers_of s) (hart_in s) (hart_with (cleared s.hart) s.csrs.reservation) (Err (IllegalInstruction s.hart.pc (bits_of x)))
+refused s (Short h) row f there own = absurd own
+refused s (Long w) row f there own =
+    refused_by (layers_of s).compressed (layers_of s) s.hart s.csrs.reservation w refl there own.0 (no_layer (layers_of s) w row f own)
+
+-- so a step of the hart that is Ok is none
+not_both : (s : MachineState) (u u' : Hart) (e : InstructionException) → HartStep (layers_of s) (hart_in s) u (Ok tt)
+    → HartStep (layers_of s) (hart_in s) u' (Err e) → ⊥
 not_both s u u' e step step' =
-    let same : Ok tt ≡ Err e = (Step-unique one_row_at_most s u u' (Ok tt) (Err e) step step').1 in
+    let same : Ok tt ≡ Err e = (HartStep-unique (layers_of s) (hart_in s) u u' (Ok tt) (Err e) step step').1 in
     cc
 
--- a step that ends well is none of extension A
-pub ok_no_atomic : (s : MachineState) (u : State) → Step s.hart u (Ok tt) → IsNoAtomic s
-ok_no_atomic s u step = λ w row f at. not_both s.hart u (cleared s.hart) _ step (illegal_step s.hart w at.fetched at.outside)
+pub ok_no_system : (s : MachineState) (u : Hart) → HartStep (layers_of s) (hart_in s) u (Ok tt) → IsNoSystem s
+ok_no_system s u step = λ x row f there own. not_both s u _ _ step (refused s x row f there own)
 
--- nor is one with another exception than an illegal instruction
-pub fault_no_atomic : (s : MachineState) (u : State) (e : InstructionException) → Step s.hart u (Err e)
-    → ((pc w : ℕ) → e ≢ IllegalInstruction pc w) → IsNoAtomic s
-fault_no_atomic s u e step other = λ w row f at.
-    let same : Err e ≡ Err (IllegalInstruction s.hart.pc w) =
-    (Step-unique one_row_at_most s.hart u (cleared s.hart) (Err e) _ step (illegal_step s.hart w at.fetched at.outside)).1 in
-    let errors : e ≡ IllegalInstruction s.hart.pc w = cc in
-    other s.hart.pc w errors
+-- ---- one exception, and one instruction
 
--- nor is a word that is none of them
-pub no_atomic_word : (s : MachineState) (w : ℕ) → next_word s.hart ≡ Some w
-    → ((row : AtomicRow) (f : RType) → ¬ IsAtomicOf s.csrs.profile w row f) → IsNoAtomic s
-no_atomic_word s w h none = λ w' row f at.
-    let words = same_Some _ _ (sym at.fetched ∙ h) in
-    none row f (subst (λ x. IsAtomicOf s.csrs.profile x row f) words at.is)
+kind-unique : (p : HartProfile) (x : Result Encoding InstructionException) (k k' : AccessKind) → IsKind p x k → IsKind p x k' → k ≡ k'
+kind-unique p (Err e) k k' is is' = is ∙ sym is'
+kind-unique p (Ok x) Fetch k' is is' = absurd is
+kind-unique p (Ok x) Load Fetch is is' = absurd is'
+kind-unique p (Ok x) Load Load is is' = refl
+kind-unique p (Ok x) Load Store is is' = absurd (is is')
+kind-unique p (Ok x) Store Fetch is is' = absurd is'
+kind-unique p (Ok x) Store Load is is' = absurd (is' is)
+kind-unique p (Ok x) Store Store is is' = refl
 
--- nor is one of the 48 rows
-pub legal_no_atomic : (s : MachineState) (w : ℕ) (row : Row) (f : Fields) → next_word s.hart ≡ Some w → Decodes w row f → IsNoAtomic s
-legal_no_atomic s w row f h decoded = λ w' row' f' at.
-    subst IsIllegal (same_Some _ _ (sym at.fetched ∙ h)) at.outside row f decoded
+pub own-unique : (x : Encoding) (row row' : SystemRow) (f f' : IType) → IsOwn x row f → IsOwn x row' f' → (row ≡ row') × (f ≡ f')
+own-unique (Short h) row row' f f' own own' = absurd own
+own-unique (Long w) row row' f f' own own' = system-unique w row row' f f' own.1 own'.1
 
--- the register that was written last is nothing to it
-pub no_atomic-uncleared : (s : State) (c : CsrFile) → IsNoAtomic (machine (cleared s) c) → IsNoAtomic (machine s c)
-no_atomic-uncleared s c none = λ w row f at. none w row f (record { fetched = at.fetched; outside = at.outside; is = at.is })
+-- ---- one step
 
--- an exception of the word w, where it is none of the instructions that the 48 rows leave out
-pub faulted : (i : Inputs) (s t : MachineState) (a : MachineAnswer) (u : State) (e : InstructionException) (w : ℕ)
-    → Step s.hart u (Err e) → next_word s.hart ≡ Some w → ((row : SystemRow) (f : IType) → IsIllegal w → ¬ IsSystem w row f)
-    → IsNoAtomic s → t ≡ raised (exception_of_word (mode_of s.csrs) w e) s → a ≡ Raised (exception_of_word (mode_of s.csrs) w e) → InstructionStep i s t a
-faulted i s t a u e w step h none calm after is =
-    Faults u e step
-    (λ w' row f h' outside is'.
-    let words = same_Some _ _ (sym h' ∙ h) in
-    none row f (subst IsIllegal words outside) (subst (λ x. IsSystem x row f) words is'))
-    calm
-    (after ∙ ap (λ o. raised (exception_of (mode_of s.csrs) o e) s) (sym h)) (is ∙ ap (λ o. Raised (exception_of (mode_of s.csrs) o e)) (sym h))
-
--- an exception of a fetch
-pub fetch_faulted : (i : Inputs) (s t : MachineState) (a : MachineAnswer) (u : State) (e : InstructionException)
-    → Step s.hart u (Err e) → next_word s.hart ≡ None
-    → t ≡ raised (exception_of_fetch (mode_of s.csrs) e) s → a ≡ Raised (exception_of_fetch (mode_of s.csrs) e) → InstructionStep i s t a
-fetch_faulted i s t a u e step h after is =
-    Faults u e step (λ w row f h' outside is'. none-some w (sym h ∙ h')) (λ w row f at. none-some w (sym h ∙ at.fetched))
-    (after ∙ ap (λ o. raised (exception_of (mode_of s.csrs) o e) s) (sym h)) (is ∙ ap (λ o. Raised (exception_of (mode_of s.csrs) o e)) (sym h))
-
--- the word at an aligned pc is the one that is about to be executed
-pub next_stands : (s : State) (w : ℕ) → s.pc % 4 ≡ 0 → little_endian s.bytes s.pc 4 ≡ Some w → next_word s ≡ Some w
-next_stands s w even read =
-    ap (λ b. if b then little_endian s.bytes s.pc 4 else None) (eq-eqb (s.pc % 4) 0 even) ∙ read
-
--- what was raised of a state is raised of one that has forgotten the register that was written last
-pub raised-cleared : (x : Exception) (h h' : State) (csrs : CsrFile) → cleared h ≡ cleared h' → raised x (machine h csrs) ≡ raised x (machine h' csrs)
-raised-cleared x h h' csrs same = ap (λ y. raised x (machine y csrs)) same
-
--- a step from an equal state
-pub step_from : (i : Inputs) (s s' t : MachineState) (a : MachineAnswer) → s' ≡ s → InstructionStep i s' t a → InstructionStep i s t a
-step_from i s s' t a same step = subst (λ x. InstructionStep i x t a) same step
-
--- the fetch at an aligned pc was made
-pub fetch_made : {M : Type 0} (reads : M → ℕ → MemAccessSize → M → Option ℕ → Type 0) (writes : M → ℕ → MemAccessSize → ℕ → M → Bool → Type 0)
-    (s : State) (a b : M) → s.pc % 4 ≡ 0 → Makes reads writes (read_if_aligned s s.pc Word) a b → Makes reads writes (fetch s ∷ []) a b
-fetch_made reads writes s a b even made =
-    subst (λ t. Makes reads writes (if t then fetch s ∷ [] else []) a b) (eq-eqb (s.pc % 4) 0 even) made
+lies : (b : Bool) → b ≡ true → b ≡ false → ⊥
+lies b may not = false≢true (sym not ∙ may)
 
 pub InstructionStep-unique : (i : Inputs) (s t t' : MachineState) (a a' : MachineAnswer)
     → InstructionStep i s t a → InstructionStep i s t' a' → (t ≡ t') × (a ≡ a')
-InstructionStep-unique i s t t' a a' (Retires u step even after is) (Retires u' step' even' after' is') =
-    let same = Step-unique one_row_at_most s.hart u u' (Ok tt) (Ok tt) step step' in
-    (after ∙ ap (λ x. machine x (retired_file s.csrs)) same.0 ∙ sym after', is ∙ sym is')
-InstructionStep-unique i s t t' a a' (Retires u step even after is) (Strays u' step' odd' after' is') =
-    let same = Step-unique one_row_at_most s.hart u u' (Ok tt) (Ok tt) step step' in
-    absurd (odd' (subst (λ (x : State). x.pc % 4 ≡ 0) same.0 even))
-InstructionStep-unique i s t t' a a' (Retires u step even after is) (Faults u' e' step' none' calm' after' is') =
-    absurd (not_both s.hart u u' e' step step')
-InstructionStep-unique i s t t' a a' (Retires u step even after is) (Executes w' row' f' h' outside' is' leaves') =
-    absurd (not_both s.hart u _ _ step (illegal_step s.hart w' h' outside'))
-InstructionStep-unique i s t t' a a' (Strays u step odd after is) (Retires u' step' even' after' is') =
-    let same = Step-unique one_row_at_most s.hart u u' (Ok tt) (Ok tt) step step' in
-    absurd (odd (subst (λ (x : State). x.pc % 4 ≡ 0) (sym same.0) even'))
+InstructionStep-unique i s t t' a a' (Retires u step lie after is) (Retires u' step' lie' after' is') =
+    let same = HartStep-unique (layers_of s) (hart_in s) u u' (Ok tt) (Ok tt) step step' in
+    (after ∙ ap (λ h. retired (with_hart h s)) same.0 ∙ sym after', is ∙ sym is')
+InstructionStep-unique i s t t' a a' (Retires u step lie after is) (Strays u' step' odd' after' is') =
+    let same = HartStep-unique (layers_of s) (hart_in s) u u' (Ok tt) (Ok tt) step step' in
+    absurd (lies _ (subst (λ (h : Hart). may_lie (layers_of s) h.state.pc ≡ true) same.0 lie) odd')
+InstructionStep-unique i s t t' a a' (Retires u step lie after is) (Faults u' e' k' step' none' kind' after' is') =
+    absurd (not_both s u u' e' step step')
+InstructionStep-unique i s t t' a a' (Retires u step lie after is) (Executes x' row' f' there' own' leaves') =
+    absurd (ok_no_system s u step x' row' f' there' own')
+InstructionStep-unique i s t t' a a' (Strays u step odd after is) (Retires u' step' lie' after' is') =
+    let same = HartStep-unique (layers_of s) (hart_in s) u' u (Ok tt) (Ok tt) step' step in
+    absurd (lies _ (subst (λ (h : Hart). may_lie (layers_of s) h.state.pc ≡ true) same.0 lie') odd)
 InstructionStep-unique i s t t' a a' (Strays u step odd after is) (Strays u' step' odd' after' is') =
-    let same = Step-unique one_row_at_most s.hart u u' (Ok tt) (Ok tt) step step' in
-    (after ∙ ap (λ (x : State). raised (InstructionMisaligned x.pc) s) same.0 ∙ sym after', is ∙ ap (λ (x : State). Raised (InstructionMisaligned x.pc)) same.0 ∙ sym is')
-InstructionStep-unique i s t t' a a' (Strays u step odd after is) (Faults u' e' step' none' calm' after' is') =
-    absurd (not_both s.hart u u' e' step step')
-InstructionStep-unique i s t t' a a' (Strays u step odd after is) (Executes w' row' f' h' outside' is' leaves') =
-    absurd (not_both s.hart u _ _ step (illegal_step s.hart w' h' outside'))
-InstructionStep-unique i s t t' a a' (Faults u e step none calm after is) (Retires u' step' even' after' is') =
-    absurd (not_both s.hart u' u e step' step)
-InstructionStep-unique i s t t' a a' (Faults u e step none calm after is) (Strays u' step' odd' after' is') =
-    absurd (not_both s.hart u' u e step' step)
-InstructionStep-unique i s t t' a a' (Faults u e step none calm after is) (Faults u' e' step' none' calm' after' is') =
-    let answers : Err e ≡ Err e' = (Step-unique one_row_at_most s.hart u u' (Err e) (Err e') step step').1 in
+    let same = HartStep-unique (layers_of s) (hart_in s) u u' (Ok tt) (Ok tt) step step' in
+    (after ∙ ap (λ (h : Hart). raised (InstructionMisaligned h.state.pc) s) same.0 ∙ sym after', is ∙ ap (λ (h : Hart). Raised (InstructionMisaligned h.state.pc)) same.0 ∙ sym is')
+InstructionStep-unique i s t t' a a' (Strays u step odd after is) (Faults u' e' k' step' none' kind' after' is') =
+    absurd (not_both s u u' e' step step')
+InstructionStep-unique i s t t' a a' (Strays u step odd after is) (Executes x' row' f' there' own' leaves') =
+    absurd (ok_no_system s u step x' row' f' there' own')
+InstructionStep-unique i s t t' a a' (Faults u e k step none kind after is) (Retires u' step' lie' after' is') =
+    absurd (not_both s u' u e step' step)
+InstructionStep-unique i s t t' a a' (Faults u e k step none kind after is) (Strays u' step' odd' after' is') =
+    absurd (not_both s u' u e step' step)
+InstructionStep-unique i s t t' a a' (Faults u e k step none kind after is) (Faults u' e' k' step' none' kind' after' is') =
+    let both = HartStep-unique (layers_of s) (hart_in s) u u' (Err e) (Err e') step step' in
+    let answers : Err e ≡ Err e' = both.1 in
     let same : e ≡ e' = cc in
-    (after ∙ ap (λ x. raised (exception_of (mode_of s.csrs) (next_word s.hart) x) s) same ∙ sym after', is ∙ ap (λ x. Raised (exception_of (mode_of s.csrs) (next_word s.hart) x)) same ∙ sym is')
-InstructionStep-unique i s t t' a a' (Faults u e step none calm after is) (Executes w' row' f' h' outside' is' leaves') =
-    absurd (none w' row' f' h' outside' is')
-InstructionStep-unique i s t t' a a' (Executes w row f h outside is leaves) (Retires u' step' even' after' is') =
-    absurd (not_both s.hart u' _ _ step' (illegal_step s.hart w h outside))
-InstructionStep-unique i s t t' a a' (Executes w row f h outside is leaves) (Strays u' step' odd' after' is') =
-    absurd (not_both s.hart u' _ _ step' (illegal_step s.hart w h outside))
-InstructionStep-unique i s t t' a a' (Executes w row f h outside is leaves) (Faults u' e' step' none' calm' after' is') =
-    absurd (none' w row f h outside is)
-InstructionStep-unique i s t t' a a' (Executes w row f h outside is leaves) (Executes w' row' f' h' outside' is' leaves') =
-    let words = same_Some _ _ (sym h ∙ h') in
-    let moved : IsSystem w row' f' = subst (λ x. IsSystem x row' f') (sym words) is' in
-    let same = system-unique w row row' f f' is moved in
-    let outcomes = leaves ∙ (λ k. system_outcome (same.0 k) (same.1 k) (words k) i s) ∙ sym leaves' in
-    (ap (λ (x : MachineOutcome). x.after) outcomes, ap (λ (x : MachineOutcome). x.answer) outcomes)
-InstructionStep-unique i s t t' a a' (Retires u step even after is) (Swaps w' row' f' at' leaves') =
-    absurd (ok_no_atomic s u step w' row' f' at')
-InstructionStep-unique i s t t' a a' (Strays u step odd after is) (Swaps w' row' f' at' leaves') =
-    absurd (ok_no_atomic s u step w' row' f' at')
-InstructionStep-unique i s t t' a a' (Faults u e step none calm after is) (Swaps w' row' f' at' leaves') =
-    absurd (calm w' row' f' at')
-InstructionStep-unique i s t t' a a' (Executes w row f h outside is leaves) (Swaps w' row' f' at' leaves') =
-    absurd (not_system s w' w row' row f' f at' h is)
-InstructionStep-unique i s t t' a a' (Swaps w row f at leaves) (Retires u' step' even' after' is') =
-    absurd (ok_no_atomic s u' step' w row f at)
-InstructionStep-unique i s t t' a a' (Swaps w row f at leaves) (Strays u' step' odd' after' is') =
-    absurd (ok_no_atomic s u' step' w row f at)
-InstructionStep-unique i s t t' a a' (Swaps w row f at leaves) (Faults u' e' step' none' calm' after' is') =
-    absurd (calm' w row f at)
-InstructionStep-unique i s t t' a a' (Swaps w row f at leaves) (Executes w' row' f' h' outside' is' leaves') =
-    absurd (not_system s w w' row row' f f' at h' is')
-InstructionStep-unique i s t t' a a' (Swaps w row f at leaves) (Swaps w' row' f' at' leaves') =
-    let same = one_atomic s w w' row row' f f' at at' in
-    let outcomes = leaves ∙ (λ k. atomic_step (same.0 k) (same.1 k) s) ∙ sym leaves' in
-    (ap (λ (x : MachineOutcome). x.after) outcomes, ap (λ (x : MachineOutcome). x.answer) outcomes)
+    let kinds = kind-unique (layers_of s) (fetched_at s) k k' kind kind' in (
+      after ∙ (λ n. raised (exception_of (mode_of s.csrs) (kinds n) (same n)) (with_hart (both.0 n) s)) ∙ sym after',
+      is ∙ (λ n. Raised (exception_of (mode_of s.csrs) (kinds n) (same n))) ∙ sym is',
+    )
+InstructionStep-unique i s t t' a a' (Faults u e k step none kind after is) (Executes x' row' f' there' own' leaves') =
+    absurd (none x' row' f' there' own')
+InstructionStep-unique i s t t' a a' (Executes x row f there own leaves) (Retires u' step' lie' after' is') =
+    absurd (ok_no_system s u' step' x row f there own)
+InstructionStep-unique i s t t' a a' (Executes x row f there own leaves) (Strays u' step' odd' after' is') =
+    absurd (ok_no_system s u' step' x row f there own)
+InstructionStep-unique i s t t' a a' (Executes x row f there own leaves) (Faults u' e' k' step' none' kind' after' is') =
+    absurd (none' x row f there own)
+InstructionStep-unique i s t t' a a' (Executes x row f there own leaves) (Executes x' row' f' there' own' leaves') =
+    let one = same_Ok x' x (fetched_at s) there' there in
+    let same = own-unique x row row' f f' own (subst (λ y. IsOwn y row' f') one own') in
+    let outcomes = leaves ∙ (λ k. system_outcome (same.0 k) (same.1 k) (bits_of (sym one k)) i s) ∙ sym leaves' in
+    (ap (λ (o : MachineOutcome). o.after) outcomes, ap (λ (o : MachineOutcome). o.answer) outcomes)
 
 pub MachineStep-unique : (i : Inputs) (s t t' : MachineState) (a a' : MachineAnswer)
     → MachineStep i s t a → MachineStep i s t' a' → (t ≡ t') × (a ≡ a')
@@ -201,28 +160,6 @@ MachineStep-unique i s t t' a a' (Proceeds none step) (Interrupts x' due' after'
 MachineStep-unique i s t t' a a' (Proceeds none step) (Proceeds none' step') =
     InstructionStep-unique i s t t' a a' step step'
 
-pub AccessesOfInstruction-unique : (s : MachineState) (xs ys : List Access)
-    → AccessesOfInstruction s xs → AccessesOfInstruction s ys → xs ≡ ys
-AccessesOfInstruction-unique s xs ys (OfKit none of) (OfKit none' of') = AccessesOf-unique one_row_at_most s.hart xs ys of of'
-AccessesOfInstruction-unique s xs ys (OfKit none of) (OfAtomic w' row' f' at' are') = absurd (none w' row' f' at')
-AccessesOfInstruction-unique s xs ys (OfAtomic w row f at are) (OfKit none' of') = absurd (none' w row f at)
-AccessesOfInstruction-unique s xs ys (OfAtomic w row f at are) (OfAtomic w' row' f' at' are') =
-    let same = one_atomic s w w' row row' f f' at at' in
-    are ∙ (λ k. fetch s.hart ∷ accesses_of_atomic (same.0 k) (same.1 k) (cleared s.hart) s.csrs.reservation) ∙ sym are'
-
--- whoever made those accesses made exactly them
-pub exactly_those : {M : Type 0} (reads : M → ℕ → MemAccessSize → M → Option ℕ → Type 0) (writes : M → ℕ → MemAccessSize → ℕ → M → Bool → Type 0)
-    (s : MachineState) (xs : List Access) (a b : M) → AccessesOfInstruction s xs → Makes reads writes xs a b
-    → MakesExactly reads writes (AccessesOfInstruction s) a b
-exactly_those reads writes s xs a b are made =
-    record { accesses = xs; these = are; only = λ others of. AccessesOfInstruction-unique s others xs of are; made = made }
-
-pub AccessesOfInstruction-uncleared : (s : State) (c : CsrFile) (xs : List Access)
-    → AccessesOfInstruction (machine (cleared s) c) xs → AccessesOfInstruction (machine s c) xs
-AccessesOfInstruction-uncleared s c xs (OfKit none of) = OfKit (no_atomic-uncleared s c none) (AccessesOf-uncleared s xs of)
-AccessesOfInstruction-uncleared s c xs (OfAtomic w row f at are) =
-    OfAtomic w row f (record { fetched = at.fetched; outside = at.outside; is = at.is }) are
-
 pub AccessesOfMachineStep-unique : (i : Inputs) (s : MachineState) (xs ys : List Access)
     → AccessesOfMachineStep i s xs → AccessesOfMachineStep i s ys → xs ≡ ys
 AccessesOfMachineStep-unique i s xs ys (OfInterrupt x due are) (OfInterrupt x' due' are') = are ∙ sym are'
@@ -231,4 +168,48 @@ AccessesOfMachineStep-unique i s xs ys (OfInterrupt x due are) (OfInstruction no
 AccessesOfMachineStep-unique i s xs ys (OfInstruction none of) (OfInterrupt x' due' are') =
     absurd (none-some x' (sym none ∙ due'))
 AccessesOfMachineStep-unique i s xs ys (OfInstruction none of) (OfInstruction none' of') =
-    AccessesOfInstruction-unique s xs ys of of'
+    AccessesOfHart-unique (layers_of s) (hart_in s) xs ys of of'
+
+-- ---- from a state that forgot which register was written last
+
+csr_cleared : (row : SystemRow) (f : IType) (w : ℕ) (o : Option Csr) (i : Inputs) (s : State) (c : CsrFile)
+    → csr_outcome row f w o i (machine (cleared s) c) ≡ csr_outcome row f w o i (machine s c)
+csr_cleared row f w None i s c = refl
+csr_cleared row f w (Some csr) i s c =
+    let operand = ap (λ x. if has_immediate row then f.rs1 else x) (same_reg s (cleared s) f.rs1 refl) in
+    λ k. if writes_csr row f && is_read_only (csr_number f)
+    then raises (IllegalWord w) (machine s c)
+    else ends (machine (gone_on (put (cleared s) f.rd (pos (csr_value csr c i)))) (file_updated row f csr (csr_value csr c i) (operand k) c)) Retired
+
+permitted_cleared : (row : SystemRow) (f : IType) (w : ℕ) (i : Inputs) (s : State) (c : CsrFile)
+    → permitted_outcome row f w i (machine (cleared s) c) ≡ permitted_outcome row f w i (machine s c)
+permitted_cleared Mret f w i s c = refl
+permitted_cleared Wfi f w i s c = refl
+permitted_cleared FenceI f w i s c = csr_cleared FenceI f w _ i s c
+permitted_cleared SystemRow.Csrrw f w i s c = csr_cleared SystemRow.Csrrw f w _ i s c
+permitted_cleared SystemRow.Csrrs f w i s c = csr_cleared SystemRow.Csrrs f w _ i s c
+permitted_cleared SystemRow.Csrrc f w i s c = csr_cleared SystemRow.Csrrc f w _ i s c
+permitted_cleared SystemRow.Csrrwi f w i s c = csr_cleared SystemRow.Csrrwi f w _ i s c
+permitted_cleared SystemRow.Csrrsi f w i s c = csr_cleared SystemRow.Csrrsi f w _ i s c
+permitted_cleared SystemRow.Csrrci f w i s c = csr_cleared SystemRow.Csrrci f w _ i s c
+
+pub system_cleared : (row : SystemRow) (f : IType) (w : ℕ) (i : Inputs) (s : State) (c : CsrFile)
+    → system_outcome row f w i (machine (cleared s) c) ≡ system_outcome row f w i (machine s c)
+system_cleared row f w i s c =
+    λ k. if is_permitted row (mode_of c) c then permitted_cleared row f w i s c k else raises (IllegalWord w) (machine s c)
+
+-- what was raised of a state is raised of one that has forgotten the register that was written last
+pub raised-cleared : (x : Exception) (h h' : State) (csrs : CsrFile) → cleared h ≡ cleared h' → raised x (machine h csrs) ≡ raised x (machine h' csrs)
+raised-cleared x h h' csrs same = ap (λ y. raised x (machine y csrs)) same
+
+pub InstructionStep-uncleared : (i : Inputs) (s : State) (c : CsrFile) (t : MachineState) (a : MachineAnswer)
+    → InstructionStep i (machine (cleared s) c) t a → InstructionStep i (machine s c) t a
+InstructionStep-uncleared i s c t a (Retires u step lie after is) =
+    Retires u (HartStep-uncleared c.profile.hart s c.reservation u (Ok tt) step) lie after is
+InstructionStep-uncleared i s c t a (Strays u step odd after is) =
+    Strays u (HartStep-uncleared c.profile.hart s c.reservation u (Ok tt) step) odd
+    (after ∙ raised-cleared (InstructionMisaligned u.state.pc) (cleared s) s c refl) is
+InstructionStep-uncleared i s c t a (Faults u e k step none kind after is) =
+    Faults u e k (HartStep-uncleared c.profile.hart s c.reservation u (Err e) step) none kind after is
+InstructionStep-uncleared i s c t a (Executes x row f there own leaves) =
+    Executes x row f there own (leaves ∙ system_cleared row f (bits_of x) i s c)

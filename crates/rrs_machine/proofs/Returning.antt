@@ -11,13 +11,13 @@ use Rattle.rrs_machine.specs.declared.csrs.Inputs.{Inputs}
 use Rattle.rrs_machine.specs.declared.csrs.Mode.{Mode}
 use Rattle.rrs_machine.specs.declared.csrs.Mode.TheVariants.{User, Machine}
 use Rattle.rrs_words.specs.declared.csrs.Profile.{Profile}
-use Rattle.rrs_words.specs.CsrNumbers.{both, either, previous}
+use Rattle.rrs_words.specs.CsrNumbers.{both, either, return_bits, previous}
 use Rattle.rrs_machine.specs.Csrs.{mode_number, mode_of, csr_value, cycle_counted, retired_file}
-use Rattle.rrs_machine.specs.Traps.{mode_bits, trap_file, previous_mode, returned_mprv, return_file}
+use Rattle.rrs_machine.specs.Traps.{alignment, mode_bits, trap_file, previous_mode, returned_mprv, return_file}
 use Rattle.rrs_machine.proofs.Counting.{stops_cycles, cycle_at, retired_at}
 
--- a multiple of 4 keeps its bits
-pub both-multiple : (n : ℕ) → n < 2 ^ 32 → n % 4 ≡ 0 → both n 0xfffffffc ≡ n
+-- a multiple of 4 keeps its bits, and so does one of 2
+both-multiple : (n : ℕ) → n < 2 ^ 32 → n % 4 ≡ 0 → both n 0xfffffffc ≡ n
 both-multiple n below even =
     let quarter : n / 4 < 2 ^ 30 = omega arith in
     let parts : n ≡ n / 4 * 2 ^ 2 + 0 = omega arith in
@@ -28,15 +28,27 @@ both-multiple n below even =
     let whole : bit_and n 0xfffffffc ≡ n = split ∙ blocks ∙ omega (arith, mask, kept, parts) in
     sym (and-word n 0xfffffffc below (lit< tt)) ∙ whole
 
+both-even : (n : ℕ) → n < 2 ^ 32 → n % 2 ≡ 0 → both n 0xfffffffe ≡ n
+both-even n below even =
+    let half : n / 2 < 2 ^ 31 = omega arith in
+    let parts : n ≡ n / 2 * 2 ^ 1 + 0 = omega arith in
+    let split : bit_and n 0xfffffffe ≡ bit_and (n / 2 * 2 ^ 1 + 0) ((2 ^ 31 - 1) * 2 ^ 1 + 0) = ap (λ k. bit_and k 0xfffffffe) parts in
+    let blocks = and_block 1 (n / 2) (2 ^ 31 - 1) 0 0 (lit< tt) (lit< tt) in
+    let mask : bit_and (n / 2) (2 ^ 31 - 1) ≡ n / 2 % 2 ^ 31 = and_mask (n / 2) 31 in
+    let kept : n / 2 % 2 ^ 31 ≡ n / 2 = mod-eq_of_lt half in
+    let whole : bit_and n 0xfffffffe ≡ n = split ∙ blocks ∙ omega (arith, mask, kept, parts) in
+    sym (and-word n 0xfffffffe below (lit< tt)) ∙ whole
+
+-- so a pc does where an instruction may lie
+both-returned : (b : Bool) (n : ℕ) → n < 2 ^ 32 → n % (if b then 2 else 4) ≡ 0 → both n (2 ^ 32 - 1 - 2 ^ 0 - (if b then 0 else 2 ^ 1)) ≡ n
+both-returned true n below even = both-even n below even
+both-returned false n below even = both-multiple n below even
+
 -- what mepc gives back
 either-zero : (n : ℕ) → n < 2 ^ 32 → either 0 n ≡ n
 either-zero n below = sym (or-word 0 n (lit< tt) below) ∙ or_zero_l n
 
 -- a choice between files that differ in a counter
-same_mepc : (b : Bool) (f : CsrFile) (n : ℕ) → (if b then f else record f { mcycle = n }).mepc ≡ f.mepc
-same_mepc true f n = refl
-same_mepc false f n = refl
-
 same_status : (b : Bool) (f : CsrFile) (n : ℕ) → (if b then f else record f { mcycle = n }).mstatus ≡ f.mstatus
 same_status true f n = refl
 same_status false f n = refl
@@ -54,13 +66,13 @@ retired-status f =
     same_status_counted (bit g.mcountinhibit 2 == 1) g ((g.minstret + 1) % 2 ^ 64) ∙ cycle-status f
 
 -- the pc comes back
-pub pc_returns : (cause value pc : ℕ) (f : CsrFile) (i : Inputs) → pc < 2 ^ 32 → pc % 4 ≡ 0
+pub pc_returns : (cause value pc : ℕ) (f : CsrFile) (i : Inputs) → pc < 2 ^ 32 → pc % alignment f.profile ≡ 0
     → csr_value Mepc (cycle_counted (trap_file cause value pc f)) i ≡ pc
 pc_returns cause value pc f i below even =
     let g = trap_file cause value pc f in
-    let keeps : (cycle_counted g).mepc ≡ both pc 0xfffffffc = same_mepc (bit g.mcountinhibit 0 == 1) g ((g.mcycle + 1) % 2 ^ 64) in
-    let once = both-multiple pc below even in
-    ap (λ n. either 0 (both n 0xfffffffc)) (keeps ∙ once) ∙ ap (either 0) once ∙ either-zero pc below
+    let once = both-returned f.profile.hart.compressed pc below even in
+    ap (λ x. csr_value Mepc x i) (cycle_at (stops_cycles g) g)
+    ∙ ap (λ n. either 0 (both n (return_bits f.profile))) once ∙ ap (either 0) once ∙ either-zero pc below
 
 -- MPP and what is above it are far from MIE and MPIE
 above : (p : Profile) (mpp mprv tw : ℕ) → mode_bits p mpp mprv tw ≡ mode_bits p mpp mprv tw / 2 ^ 11 * 2 ^ 11

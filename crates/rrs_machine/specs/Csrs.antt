@@ -2,7 +2,7 @@
 -- keep, read and count, and which of them an instruction may access (RISC-V privileged specification
 -- 1.12, "CSR Address Mapping Conventions" and "Machine-Level CSRs"; unprivileged specification,
 -- "Zicntr"). Their numbers, and the bits that are written, are in rrs_words.
-use Rattle.std.specs.Prelude.{ℕ, zero, suc, ◌+◌, ◌*◌, ◌/◌, ◌%◌, ◌^◌, ◌==◌, ◌&&◌, Bool, true, false, if◌then◌else◌, Option, Some, None}
+use Rattle.std.specs.Prelude.{ℕ, zero, suc, ◌+◌, ◌*◌, ◌/◌, ◌%◌, ◌^◌, ◌==◌, ◌&&◌, Bool, true, false, if◌then◌else◌, Option, None}
 use Rattle.rrs_machine.specs.declared.csrs.CsrFile.{CsrFile}
 use Rattle.rrs_machine.specs.declared.csrs.Mode.{Mode}
 use Rattle.rrs_machine.specs.declared.csrs.Mode.TheVariants.{User, Machine}

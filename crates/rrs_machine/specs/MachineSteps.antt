@@ -1,29 +1,26 @@
 -- One step of a hart that has machine mode, alone or with user mode (RISC-V privileged
 -- specification 1.12, "Machine-Level ISA"; unprivileged specification, "Zicsr": an instruction on a
--- CSR reads the old value and then writes), with or without extension A (rrs_hart). An
--- instruction of the 48 rows does what the kit's own step does, in both modes. Two things are
--- decided here: a jump or a taken branch to a misaligned address raises its exception at the jump,
--- with no register written, as the specification has it; and a wfi retires at once, with an answer
--- that tells whether the hart waits, so that an interrupt that comes meanwhile is taken after it.
-use Rattle.std.specs.Prelude.{◌≡◌, ◌≢◌, ℕ, ◌+◌, ◌%◌, ◌^◌, ◌==◌, ◌&&◌, List, [], ◌∷◌, Bool, pos, true, false, not, if◌then◌else◌, Option, Some, None, Ok, Err}
+-- CSR reads the old value and then writes). An instruction of the hart, with the layers of its
+-- profile, does what its step does (rrs_hart), in both modes. Two things are decided here: a jump
+-- or a taken branch to a misaligned address raises its exception at the jump, with no register
+-- written, as the specification has it; and a wfi retires at once, with an answer that tells
+-- whether the hart waits, so that an interrupt that comes meanwhile is taken after it.
+use Rattle.std.specs.Prelude.{◌≡◌, ℕ, ◌+◌, ◌%◌, ◌^◌, ◌==◌, ◌&&◌, ◌||◌, List, [], Bool, pos, true, false, not, if◌then◌else◌, Option, Some, None, Result, Ok, Err}
 use Rattle.rrs_lib.specs.declared.HartState.{HartState}
 use Rattle.rrs_lib.specs.declared.instruction_executor.InstructionException.{InstructionException}
 use Rattle.rrs_lib.specs.declared.instruction_executor.InstructionExecutor.{InstructionExecutor}
 use Rattle.rrs_instruction.specs.declared.instruction_formats.IType.{IType}
-use Rattle.rrs_instruction.specs.declared.instruction_formats.RType.{RType}
 use Rattle.rrs_machine.specs.declared.csrs.CsrFile.{CsrFile}
 use Rattle.rrs_machine.specs.declared.csrs.Mode.{Mode}
-use Rattle.rrs_machine.specs.declared.csrs.Mode.TheVariants.{User, Machine}
+use Rattle.rrs_machine.specs.declared.csrs.Mode.TheVariants.{User}
 use Rattle.rrs_words.specs.declared.csrs.Csr.{Csr}
 use Rattle.rrs_words.specs.declared.csrs.Csr.TheVariants.{Mepc}
 use Rattle.rrs_machine.specs.declared.csrs.Inputs.{Inputs}
 use Rattle.rrs_words.specs.declared.instructions.SystemRow.{SystemRow}
 use Rattle.rrs_words.specs.declared.instructions.SystemRow.TheVariants.{Mret, Wfi, FenceI}
-use Rattle.rrs_words.specs.declared.atomics.AtomicRow.{AtomicRow}
-use Rattle.rrs_words.specs.declared.csrs.Profile.{Profile}
-use Rattle.rrs_words.specs.declared.atomics.AtomicRow.TheVariants.{LrW}
 use Rattle.rrs_machine.specs.declared.traps.Exception.{Exception}
 use Rattle.rrs_machine.specs.declared.traps.Exception.TheVariants.{InstructionMisaligned, IllegalInstruction}
+use Rattle.rrs_machine.specs.declared.traps.AccessKind.{AccessKind}
 use Rattle.rrs_machine.specs.declared.traps.Interrupt.{Interrupt}
 use Rattle.rrs_machine.specs.declared.machine.MachineAnswer.{MachineAnswer}
 use Rattle.rrs_machine.specs.declared.machine.MachineAnswer.TheVariants.{Retired, Waiting, Raised, Interrupted}
@@ -31,15 +28,18 @@ use Rattle.rrs_instruction.specs.Table.{IsIllegal}
 use Rattle.rrs_instruction.specs.Words.{bit}
 use Rattle.rrs_lib.specs.Bytes.{ByteMap}
 use Rattle.rrs_lib.specs.Machine.{State, state_of, reg, put, with_pc}
-use Rattle.rrs_lib.specs.Steps.{Step, StepAnswer, next_word, cleared, advanced}
+use Rattle.rrs_lib.specs.Steps.{cleared, advanced}
 use Rattle.rrs_lib.specs.Executor.{state_in}
-use Rattle.rrs_lib.specs.Accesses.{Access, AccessesOf, fetch}
-use Rattle.rrs_words.specs.AtomicInstructions.{IsAtomic}
-use Rattle.rrs_hart.specs.Atomics.{AtomicOutcome, atomic_outcome, accesses_of_atomic}
+use Rattle.rrs_lib.specs.Accesses.{Access}
+use Rattle.rrs_words.specs.declared.csrs.HartProfile.{HartProfile}
+use Rattle.rrs_hart.specs.declared.halves.Encoding.{Encoding}
+use Rattle.rrs_hart.specs.declared.halves.Encoding.TheVariants.{Short, Long}
+use Rattle.rrs_hart.specs.Halves.{bits_of}
+use Rattle.rrs_hart.specs.Harts.{Hart, hart_with, fetched_in, HartStep, AccessesOfHart}
 use Rattle.rrs_words.specs.CsrNumbers.{is_read_only}
 use Rattle.rrs_machine.specs.Csrs.{mode_of, found_csr, csr_value, csr_written, cycle_counted, retired_file, counted_beside}
 use Rattle.rrs_words.specs.SystemInstructions.{IsSystem, csr_number, writes_csr, has_immediate, updated}
-use Rattle.rrs_machine.specs.Traps.{exception_code, exception_value, interrupt_code, ready_interrupt, interrupt_due, trap_file, return_file, base_of, vector_of, exception_of, exception_of_word}
+use Rattle.rrs_machine.specs.Traps.{exception_code, exception_value, interrupt_code, ready_interrupt, interrupt_due, trap_file, return_file, base_of, vector_of, IsKind, exception_of}
 
 -- ---- the state
 
@@ -143,7 +143,6 @@ is_permitted _ _ file = true
 abbrev pub permitted_outcome : SystemRow → IType → ℕ → Inputs → MachineState → MachineOutcome
 permitted_outcome Mret f w i s = ends (returned i s) Retired
 permitted_outcome Wfi f w i s = ends (passed s) (wait_answer (ready_interrupt s.csrs i))
-permitted_outcome FenceI f w i s = ends (passed s) Retired
 permitted_outcome row f w i s = csr_outcome row f w (found_csr s.csrs (csr_number f)) i s
 
 abbrev pub system_outcome : SystemRow → IType → ℕ → Inputs → MachineState → MachineOutcome
@@ -152,78 +151,73 @@ system_outcome row f w i s =
     then permitted_outcome row f w i s
     else raises (IllegalInstruction w) s
 
--- ---- the instructions of extension A
-
--- the word w is one of these, where the hart has extension A
-abbrev pub IsAtomicOf : Profile → ℕ → AtomicRow → RType → Type 0
-IsAtomicOf p w row f = (p.atomics ≡ true) × IsAtomic w row f
-
--- such a word is at the program counter
-pub record AtomicAt (s : MachineState) (w : ℕ) (row : AtomicRow) (f : RType) : Type 0 where
-  pub fetched : next_word s.hart ≡ Some w
-  pub outside : IsIllegal w
-  pub is : IsAtomicOf s.csrs.profile w row f
-
--- none is
-abbrev pub IsNoAtomic : MachineState → Type 0
-IsNoAtomic s = (w : ℕ) (row : AtomicRow) (f : RType) → ¬ AtomicAt s w row f
-
-abbrev pub reserving : Option ℕ → CsrFile → CsrFile
-reserving r file = record file { reservation = r }
-
--- lr.w has the exceptions of a load, and the others have those of a store: the opcode of these
-abbrev pub opcode_like : AtomicRow → ℕ
-opcode_like LrW = 0x03
-opcode_like row = 0x23
-
--- the outcome, by what is left of registers and memory, the CSRs, and how the instruction ended
-abbrev pub atomic_ended : AtomicRow → State → CsrFile → StepAnswer → MachineOutcome
-atomic_ended row u file (Ok v) = ends (machine (gone_on u) (retired_file file)) Retired
-atomic_ended row u file (Err e) =
-    raises (exception_of_word (mode_of file) (opcode_like row) e) (machine u file)
-
-abbrev pub atomic_ends : AtomicRow → AtomicOutcome → CsrFile → MachineOutcome
-atomic_ends row o file = atomic_ended row o.after (reserving o.reservation file) o.answer
-
-abbrev pub atomic_step : AtomicRow → RType → MachineState → MachineOutcome
-atomic_step row f s =
-    atomic_ends row (atomic_outcome row f (cleared s.hart) s.csrs.reservation) s.csrs
-
 -- ---- a step
 
--- no word that the 48 rows leave out and that is in the table is at the program counter
-abbrev pub IsNoSystem : State → Type 0
-IsNoSystem h =
-    (w : ℕ) (row : SystemRow) (f : IType)
-    → next_word h ≡ Some w → IsIllegal w → ¬ IsSystem w row f
+-- the hart, whose reservation is kept among the CSRs
+abbrev pub hart_in : MachineState → Hart
+hart_in s = hart_with s.hart s.csrs.reservation
 
--- An instruction, in one of five cases.
+-- the machine whose hart has become this one
+abbrev pub with_hart : Hart → MachineState → MachineState
+with_hart h s = machine h.state (record s.csrs { reservation = h.reserved })
+
+abbrev pub layers_of : MachineState → HartProfile
+layers_of s = s.csrs.profile.hart
+
+-- the instruction that is about to be executed, or the exception of its fetch
+abbrev pub fetched_at : MachineState → Result Encoding InstructionException
+fetched_at s = fetched_in (layers_of s) s.hart.bytes s.hart.pc
+
+-- fence.i is a layer of the hart; machine mode has the instructions on CSRs, mret and wfi
+abbrev pub is_own : SystemRow → Bool
+is_own FenceI = false
+is_own _ = true
+
+-- the encoding is one of these
+abbrev pub IsOwn : Encoding → SystemRow → IType → Type 0
+IsOwn (Short h) row f = ⊥
+IsOwn (Long w) row f = IsIllegal w × IsSystem w row f × (is_own row ≡ true)
+
+-- none of them is about to be executed
+abbrev pub IsNoSystem : MachineState → Type 0
+IsNoSystem s = (x : Encoding) (row : SystemRow) (f : IType) → fetched_at s ≡ Ok x → ¬ IsOwn x row f
+
+-- an instruction may lie there
+abbrev pub may_lie : HartProfile → ℕ → Bool
+may_lie p a = p.compressed || (a % 4 == 0)
+
+-- the instruction retires
+abbrev pub retired : MachineState → MachineState
+retired s = machine s.hart (retired_file s.csrs)
+
+-- the CSRs are those of a state before a step of its hart, which may have changed the reservation
+abbrev pub IsBefore : CsrFile → MachineState → Type 0
+IsBefore file s = s.csrs ≡ record file { reservation = s.csrs.reservation }
+
+-- An instruction, in one of four cases.
 pub data InstructionStep (i : Inputs) (s t : MachineState) (answer : MachineAnswer) : Type 0 where
-  -- one of the 48 rows retires
-  Retires : (u : State)
-      → Step s.hart u (Ok tt) → u.pc % 4 ≡ 0
-      → t ≡ machine u (retired_file s.csrs) → answer ≡ Retired
+  -- one of the hart retires
+  Retires : (u : Hart)
+      → HartStep (layers_of s) (hart_in s) u (Ok tt) → may_lie (layers_of s) u.state.pc ≡ true
+      → t ≡ retired (with_hart u s) → answer ≡ Retired
       → InstructionStep i s t answer
   -- a jump or a taken branch to a misaligned address raises the exception
-  Strays : (u : State)
-      → Step s.hart u (Ok tt) → u.pc % 4 ≢ 0
-      → t ≡ raised (InstructionMisaligned u.pc) s → answer ≡ Raised (InstructionMisaligned u.pc)
+  Strays : (u : Hart)
+      → HartStep (layers_of s) (hart_in s) u (Ok tt) → may_lie (layers_of s) u.state.pc ≡ false
+      → t ≡ raised (InstructionMisaligned u.state.pc) s
+      → answer ≡ Raised (InstructionMisaligned u.state.pc)
       → InstructionStep i s t answer
-  -- the step of the kit ends with an exception, which is raised
-  Faults : (u : State) (e : InstructionException)
-      → Step s.hart u (Err e) → IsNoSystem s.hart → IsNoAtomic s
-      → t ≡ raised (exception_of (mode_of s.csrs) (next_word s.hart) e) s
-      → answer ≡ Raised (exception_of (mode_of s.csrs) (next_word s.hart) e)
+  -- the step of the hart ends with an exception, which is raised
+  Faults : (u : Hart) (e : InstructionException) (kind : AccessKind)
+      → HartStep (layers_of s) (hart_in s) u (Err e)
+      → IsNoSystem s → IsKind (layers_of s) (fetched_at s) kind
+      → t ≡ raised (exception_of (mode_of s.csrs) kind e) (with_hart u s)
+      → answer ≡ Raised (exception_of (mode_of s.csrs) kind e)
       → InstructionStep i s t answer
-  -- one of the instructions that the 48 rows leave out
-  Executes : (w : ℕ) (row : SystemRow) (f : IType)
-      → next_word s.hart ≡ Some w → IsIllegal w → IsSystem w row f
-      → ends t answer ≡ system_outcome row f w i s
-      → InstructionStep i s t answer
-  -- one of extension A
-  Swaps : (w : ℕ) (row : AtomicRow) (f : RType)
-      → AtomicAt s w row f
-      → ends t answer ≡ atomic_step row f s
+  -- one that machine mode has
+  Executes : (x : Encoding) (row : SystemRow) (f : IType)
+      → fetched_at s ≡ Ok x → IsOwn x row f
+      → ends t answer ≡ system_outcome row f (bits_of x) i s
       → InstructionStep i s t answer
 
 -- One step takes s to t with this answer: an interrupt is taken, or else an instruction.
@@ -243,22 +237,13 @@ IsOnlyMachineStep i s t answer =
     (t' : MachineState) (answer' : MachineAnswer)
     → MachineStep i s t' answer' → (t' ≡ t) × (answer' ≡ answer)
 
--- the accesses of an instruction: those of the kit's step, or the fetch and those of extension A
-pub data AccessesOfInstruction (s : MachineState) (accesses : List Access) : Type 0 where
-  OfKit :
-      IsNoAtomic s → AccessesOf s.hart accesses
-      → AccessesOfInstruction s accesses
-  OfAtomic : (w : ℕ) (row : AtomicRow) (f : RType)
-      → AtomicAt s w row f
-      → accesses ≡ fetch s.hart ∷ accesses_of_atomic row f (cleared s.hart) s.csrs.reservation
-      → AccessesOfInstruction s accesses
-
--- the accesses of a step: those of its instruction, and none where an interrupt is taken
+-- The accesses of a step: none where an interrupt is taken, and else those of the step of the hart.
+-- To the hart an instruction of machine mode is an illegal one, and makes the fetch alone.
 pub data AccessesOfMachineStep (i : Inputs) (s : MachineState) (accesses : List Access)
     : Type 0 where
   OfInterrupt : (x : Interrupt)
       → interrupt_due s.csrs i ≡ Some x → accesses ≡ []
       → AccessesOfMachineStep i s accesses
   OfInstruction :
-      interrupt_due s.csrs i ≡ None → AccessesOfInstruction s accesses
+      interrupt_due s.csrs i ≡ None → AccessesOfHart (layers_of s) (hart_in s) accesses
       → AccessesOfMachineStep i s accesses

@@ -2,7 +2,9 @@
 -- mtval, mip and mie). An exception is raised by an instruction, and an interrupt is taken before
 -- one. A trap goes to machine mode. It keeps MIE in MPIE and clears MIE, and keeps the mode in MPP;
 -- mret puts MPIE back into MIE and sets MPIE, and goes to the mode in MPP.
-use Rattle.std.specs.Prelude.{ℕ, ◌+◌, ◌*◌, ◌/◌, ◌%◌, ◌^◌, ◌==◌, ◌&&◌, Bool, true, false, if◌then◌else◌, pos, Option, Some, None}
+use Rattle.std.specs.Prelude.{ℕ, ◌+◌, ◌*◌, ◌/◌, ◌^◌, ◌==◌, ◌&&◌, Bool, true, false, if◌then◌else◌, pos, ◌≡◌, Option, Some, None, Result, Ok, Err}
+use Rattle.rrs_instruction.specs.Encodings.{Fields}
+use Rattle.rrs_instruction.specs.Table.{Row, table, Action}
 use Rattle.rrs_lib.specs.declared.instruction_executor.InstructionException.{InstructionException}
 use Rattle.rrs_lib.specs.declared.instruction_executor.InstructionException.TheVariants.{AlignmentFault, FetchError, LoadAccessFault, StoreAccessFault}
 use Rattle.rrs_machine.specs.declared.csrs.CsrFile.{CsrFile}
@@ -13,9 +15,18 @@ use Rattle.rrs_words.specs.declared.csrs.Csr.TheVariants.{Mepc}
 use Rattle.rrs_machine.specs.declared.csrs.Inputs.{Inputs}
 use Rattle.rrs_machine.specs.declared.traps.Exception.{Exception}
 use Rattle.rrs_machine.specs.declared.traps.Exception.TheVariants.{InstructionMisaligned, InstructionFault, IllegalInstruction, Breakpoint, LoadMisaligned, LoadFault, StoreMisaligned, StoreFault, EnvironmentCall, UserEnvironmentCall}
+use Rattle.rrs_machine.specs.declared.traps.AccessKind.{AccessKind}
+use Rattle.rrs_machine.specs.declared.traps.AccessKind.TheVariants.{Fetch, Load, Store}
 use Rattle.rrs_machine.specs.declared.traps.Interrupt.{Interrupt}
 use Rattle.rrs_machine.specs.declared.traps.Interrupt.TheVariants.{External, Software, Timer}
 use Rattle.rrs_instruction.specs.Words.{word, bit}
+use Rattle.rrs_words.specs.declared.atomics.AtomicRow.{AtomicRow}
+use Rattle.rrs_words.specs.declared.atomics.AtomicRow.TheVariants.{LrW}
+use Rattle.rrs_words.specs.declared.csrs.HartProfile.{HartProfile}
+use Rattle.rrs_words.specs.declared.layers.LayerInstruction.{LayerInstruction}
+use Rattle.rrs_words.specs.declared.layers.LayerInstruction.TheVariants.{System, Atomic, Bits}
+use Rattle.rrs_hart.specs.declared.halves.Encoding.{Encoding}
+use Rattle.rrs_hart.specs.Halves.{StandsFor, IsNoRow, IsLayers}
 use Rattle.rrs_words.specs.CsrNumbers.{both, written_bits, previous}
 use Rattle.rrs_machine.specs.Csrs.{mode_number, mode_of}
 
@@ -78,13 +89,17 @@ interrupt_due f i = if is_enabled (mode_of f) f.mstatus then ready_interrupt f i
 
 -- ---- the CSRs after a trap, and after an mret
 
+-- an instruction lies at a multiple of this, IALIGN in bytes
+abbrev pub alignment : Profile → ℕ
+alignment p = if p.hart.compressed then 2 else 4
+
 -- MPP, MPRV and TW of mstatus, which are there with user mode
 abbrev pub mode_bits : Profile → ℕ → ℕ → ℕ → ℕ
 mode_bits p mpp mprv tw =
     if p.user_mode then mpp * 2 ^ 11 + mprv * 2 ^ 17 + tw * 2 ^ 21 else 0
 
--- MPIE is MIE, MIE is 0, MPP is the mode, and MPRV and TW stay; mepc is the pc but for its two low
--- bits
+-- MPIE is MIE, MIE is 0, MPP is the mode, and MPRV and TW stay; mepc is the pc, in the bits that it
+-- has
 abbrev pub trap_file : ℕ → ℕ → ℕ → CsrFile → CsrFile
 trap_file cause value pc f = record f {
   mode = Machine;
@@ -123,32 +138,54 @@ abbrev pub vector_of : ℕ → CsrFile → ℕ
 vector_of code f =
     if bit f.mtvec 0 == 1 then word (pos (base_of f + 4 * code)) else base_of f
 
--- ---- exceptions of the kit
+-- ---- exceptions of the hart
 
--- A load or a store is misaligned by its own address. The opcode of the stores is 0x23.
-abbrev pub misaligned_access : ℕ → ℕ → Exception
-misaligned_access w a = if w % 2 ^ 7 == 0x23 then StoreMisaligned a else LoadMisaligned a
+-- a row that stores
+abbrev pub stores : Action → Bool
+stores (Action.Store n) = true
+stores _ = false
+
+-- the instructions of extension A store, all but lr.w
+abbrev pub atomic_stores : AtomicRow → Bool
+atomic_stores LrW = false
+atomic_stores _ = true
+
+abbrev pub layer_stores : LayerInstruction → Bool
+layer_stores (System i) = false
+layer_stores (Atomic i) = atomic_stores i.row
+layer_stores (Bits i) = false
+
+-- the instruction is a store or an AMO
+pub data IsStore (p : HartProfile) (x : Encoding) : Type 0 where
+  RowStores : (row : Row) (f : Fields)
+      → StandsFor x row f → stores (table row).action ≡ true → IsStore p x
+  LayerStores : (i : LayerInstruction)
+      → IsNoRow x → IsLayers p x i → layer_stores i ≡ true → IsStore p x
+
+-- what accesses memory, by what was fetched: the fetch where nothing was
+abbrev pub IsKind : HartProfile → Result Encoding InstructionException → AccessKind → Type 0
+IsKind p (Err e) kind = kind ≡ Fetch
+IsKind p (Ok x) Fetch = ⊥
+IsKind p (Ok x) Load = ¬ IsStore p x
+IsKind p (Ok x) Store = IsStore p x
+
+-- a misaligned address: that of an instruction, of a load, or of a store or an AMO
+abbrev pub misaligned : AccessKind → ℕ → Exception
+misaligned Fetch a = InstructionMisaligned a
+misaligned Load a = LoadMisaligned a
+misaligned Store a = StoreMisaligned a
 
 -- an ecall by the mode
 abbrev pub call_from : Mode → Exception
 call_from User = UserEnvironmentCall
 call_from Machine = EnvironmentCall
 
--- the exception of the word w, in a mode, that the kit's machine ended a step with
-abbrev pub exception_of_word : Mode → ℕ → InstructionException → Exception
-exception_of_word m w (AlignmentFault a) = misaligned_access w a
-exception_of_word m w (LoadAccessFault a) = LoadFault a
-exception_of_word m w (StoreAccessFault a) = StoreFault a
-exception_of_word m w (FetchError a) = InstructionFault a
-exception_of_word m w (InstructionException.IllegalInstruction pc v) = IllegalInstruction v
-exception_of_word m w (InstructionException.EnvironmentCall pc) = call_from m
-exception_of_word m w (InstructionException.Breakpoint pc) = Breakpoint pc
-
--- the exception where no word was fetched
-abbrev pub exception_of_fetch : Mode → InstructionException → Exception
-exception_of_fetch m (AlignmentFault a) = InstructionMisaligned a
-exception_of_fetch m e = exception_of_word m 0 e
-
-abbrev pub exception_of : Mode → Option ℕ → InstructionException → Exception
-exception_of m None e = exception_of_fetch m e
-exception_of m (Some w) e = exception_of_word m w e
+-- the exception that a step of the hart ended with, in a mode, by what accesses memory
+abbrev pub exception_of : Mode → AccessKind → InstructionException → Exception
+exception_of m kind (AlignmentFault a) = misaligned kind a
+exception_of m kind (LoadAccessFault a) = LoadFault a
+exception_of m kind (StoreAccessFault a) = StoreFault a
+exception_of m kind (FetchError a) = InstructionFault a
+exception_of m kind (InstructionException.IllegalInstruction pc v) = IllegalInstruction v
+exception_of m kind (InstructionException.EnvironmentCall pc) = call_from m
+exception_of m kind (InstructionException.Breakpoint pc) = Breakpoint pc

@@ -56,8 +56,8 @@ pub struct CsrFile {
     pub mcounteren: u32,
     /// `mscratch`: a word for the handler.
     pub mscratch: u32,
-    /// `mepc`: the pc of the instruction that was interrupted or raised the exception. Its two low
-    /// bits read 0.
+    /// `mepc`: the pc of the instruction that was interrupted or raised the exception. Its lowest
+    /// bit reads 0, and so does bit 1 of a hart without compressed instructions.
     pub mepc: u32,
     /// `mcause`: bit 31 says that it was an interrupt, the others are its code or that of the
     /// exception.

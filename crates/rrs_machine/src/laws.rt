@@ -4,6 +4,7 @@ ghost use Rattle.std.specs.Prelude.{◌≡◌, ℕ, ◌%◌, Bool};
 ghost use Rattle.rrs_instruction.specs.Words.{bit};
 ghost use Rattle.rrs_lib.specs.Bytes.{ByteMap};
 ghost use Rattle.rrs_machine.specs.Csrs.{mode_of};
+ghost use Rattle.rrs_machine.specs.Traps.{alignment};
 ghost use Rattle.rrs_machine.specs.MachineSteps.{machine_of, trapped, returned};
 
 use crate::csrs::{CsrFile, Inputs};
@@ -14,8 +15,8 @@ use rrs_lib::HartState;
 ///
 /// The cause, the value for `mtval` and the handler may be any, so it is the trap of each exception
 /// and of each interrupt. The clauses: the hart and its CSRs are what the one and then the other
-/// leaves (`both`); at a pc that is a multiple of 4 the registers, the pc, MIE and the mode are as
-/// before.
+/// leaves (`both`); at a pc where an instruction may lie the registers, the pc, MIE and the mode
+/// are as before.
 pub fn trap_and_return(
     hart: &mut HartState,
     csrs: &mut CsrFile,
@@ -29,7 +30,7 @@ pub fn trap_and_return(
         ≡ returned inputs.now (trapped cause value handler
         (machine_of hart.old csrs.old bytes writable)) }
     ensures registers { hart.new.registers ≡ hart.old.registers }
-    ensures pc { hart.old.pc % 4 ≡ 0 → hart.new.pc ≡ hart.old.pc }
+    ensures pc { hart.old.pc % alignment csrs.old.profile ≡ 0 → hart.new.pc ≡ hart.old.pc }
     ensures enabled { bit csrs.new.mstatus 3 ≡ bit csrs.old.mstatus 3 }
     ensures mode { mode_of csrs.new ≡ mode_of csrs.old }
 {

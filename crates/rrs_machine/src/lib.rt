@@ -1,17 +1,16 @@
 //! Machine mode, above `rrs_lib`'s machine: CSRs, traps, interrupts, steps, and their records.
 //!
-//! [step_machine] makes a step of a hart that has machine mode: RV32IM with Zicsr, Zifencei and
-//! Zicntr, by the RISC-V privileged specification 1.12. Its [Profile] says whether it has user mode
-//! too, and whether it has extension A. An instruction of the 48 rows does what the kit's own step
-//! does, and one of extension A what `rrs_hart` does. What a step is, is written in
+//! [step_machine] makes a step of a hart that has machine mode: RV32IM with Zicsr and Zicntr, by the
+//! RISC-V privileged specification 1.12. Its [Profile] says whether it has user mode too, and which
+//! layers its instructions have: `fence.i`, extension A, misaligned accesses, compressed code. An
+//! instruction of the hart does what `step_hart` of `rrs_hart` does. What a step is, is written in
 //! `specs/MachineSteps.antt`, with the CSRs in `specs/Csrs.antt` and the traps in
-//! `specs/Traps.antt`. The instructions on CSRs and those of extension A are decoded by `rrs_words`.
+//! `specs/Traps.antt`. The instructions are decoded by `rrs_words`.
 //! [step_machine_retired] makes a step and its record, in the shape of RVFI, as
 //! `specs/MachineRecords.antt` says.
 
 #![tactic(auto)]
 
-pub mod cached;
 pub mod csrs;
 pub mod laws;
 pub mod machine;
@@ -19,7 +18,6 @@ mod retired;
 pub mod runs;
 pub mod traps;
 
-pub use cached::{ForeseeableSurroundings, Outlook, run_machine_cached};
 pub use csrs::{CsrFile, Inputs, Mode};
 pub use machine::{MachineAnswer, step_machine};
 pub use retired::{CsrAccess, MachineRetired, step_machine_retired};

@@ -1,37 +1,32 @@
-//! A step of a hart that has machine mode, and by its profile user mode and extension A.
+//! A step of a hart that has machine mode, and by its profile user mode and layers.
 
-ghost use Rattle.std.specs.Prelude.{◌≡◌, ℕ, ◌%◌, ◌<◌, ◌^◌, ◌∷◌, List, Bool, Some, None, Option, IfSome, IfNone, Ok, slice_index};
-ghost use Rattle.rrs_instruction.specs.Encodings.{HasRegisters, I, R, IsInRange};
-ghost use Rattle.rrs_instruction.specs.Table.{IsIllegal};
-ghost use Rattle.rrs_lib.specs.Bytes.{ByteMap, little_endian};
-ghost use Rattle.rrs_lib.specs.Instructions.{row_of, fields_of, IsInstruction};
+ghost use Rattle.std.specs.Prelude.{◌≡◌, ℕ, ◌%◌, Bool, Ok, Err, Option, IfSome, IfNone, drop, slice_index};
+ghost use Rattle.rrs_instruction.specs.Encodings.{HasRegisters, I};
+ghost use Rattle.rrs_instruction.specs.declared.instruction_formats.IType.{IType as IFields};
+ghost use Rattle.rrs_lib.specs.Bytes.{ByteMap};
 ghost use Rattle.rrs_lib.specs.Machine.{state_of};
-ghost use Rattle.rrs_lib.specs.Steps.{Step, cleared};
 ghost use Rattle.rrs_lib.specs.Executor.{state_in, KeepsTheRest};
-ghost use Rattle.rrs_lib.specs.Accesses.{Access, fetch, accesses_of_row, Makes, MakesExactly};
-ghost use Rattle.rrs_hart.specs.Atomics.{accesses_of_atomic};
+ghost use Rattle.rrs_lib.specs.Accesses.{MakesExactly};
+ghost use Rattle.rrs_words.specs.declared.instructions.SystemRow.{SystemRow as TheRow};
+ghost use Rattle.rrs_words.specs.SystemInstructions.{csr_number};
+ghost use Rattle.rrs_hart.specs.declared.halves.Encoding.TheVariants.{Long};
+ghost use Rattle.rrs_hart.specs.Harts.{hart_with, fetched_in, HartStep, AccessesOfHart};
 ghost use Rattle.rrs_machine.specs.declared.csrs.Inputs.{Inputs as InputsOfStep};
+ghost use Rattle.rrs_machine.specs.declared.traps.AccessKind.{AccessKind as Kind};
 ghost use Rattle.rrs_machine.specs.Csrs.{mode_of, found_csr};
-ghost use Rattle.rrs_words.specs.SystemInstructions.{csr_number, IsSystem};
-ghost use Rattle.rrs_machine.specs.MachineSteps.{machine_of, machine_in, ends, operand_of, file_updated, accessed, trapped, raised, raises, interrupted, csr_outcome, returned, passed, wait_answer, is_permitted, permitted_outcome, system_outcome, opcode_like, atomic_ended, atomic_step, InstructionStep, MachineStep, IsOnlyMachineStep, AccessesOfInstruction, AccessesOfMachineStep, IsNoSystem, IsNoAtomic, IsAtomicOf};
-ghost use Rattle.rrs_words.specs.declared.atomics.AtomicRow.{AtomicRow as TheAtomicRow};
-ghost use Rattle.rrs_instruction.specs.declared.instruction_formats.RType.{RType as RFields};
+ghost use Rattle.rrs_machine.specs.Traps.{IsKind, exception_of};
+ghost use Rattle.rrs_machine.specs.MachineSteps.{MachineState, machine_of, machine_in, ends, operand_of, file_updated, accessed, trapped, raised, raises, interrupted, csr_outcome, returned, passed, wait_answer, is_permitted, permitted_outcome, system_outcome, hart_in, layers_of, fetched_at, IsOwn, IsBefore, may_lie, InstructionStep, MachineStep, IsOnlyMachineStep, AccessesOfMachineStep, IsNoSystem};
 ghost use Rattle.rrs_machine.specs.Laws.{KeepsUnlessRetired, WritesNeither, instructions_after, cycles_after};
 ghost use Rattle.rrs_instruction.specs.Words.{bit};
 
 use crate::csrs::{CsrFile, Inputs, Mode};
-use crate::traps::{Exception, Interrupt, exception_of_fetch, exception_of_word};
-use rrs_hart::execute_atomic;
-use rrs_lib::instruction::{Instruction, decode};
-use rrs_lib::instruction_executor::{
-    InstructionException, InstructionExecutor, execute_parts, fetch_word,
-};
+use crate::traps::{Exception, Interrupt, exception_of, kind_of};
+use rrs_hart::{Encoding, HartProfile, bits_of, execute_in, fetch_in};
+use rrs_lib::instruction::decode;
+use rrs_lib::instruction_executor::{InstructionException, InstructionExecutor};
 use rrs_lib::{HartState, Memory};
 use rrs_words::csrs::is_read_only;
-use rrs_words::{
-    AtomicInstruction, AtomicRow, Csr, Profile, SystemInstruction, SystemRow, decode_atomic,
-    decode_system,
-};
+use rrs_words::{Csr, SystemInstruction, SystemRow, decode_system};
 
 /// How a step of a hart with machine mode ended.
 #[derive(Debug, PartialEq, Clone, Copy)]
@@ -74,7 +69,11 @@ pub(crate) fn raise(hart: &mut HartState, csrs: &mut CsrFile, exception: Excepti
 }
 
 /// Takes an interrupt.
-fn interrupt(hart: &mut HartState, csrs: &mut CsrFile, interrupt: Interrupt) -> MachineAnswer
+pub(crate) fn interrupt(
+    hart: &mut HartState,
+    csrs: &mut CsrFile,
+    interrupt: Interrupt,
+) -> MachineAnswer
     ensures interrupted { (bytes : ByteMap) (writable : ℕ → Bool)
         → machine_of hart.new csrs.new bytes writable
         ≡ interrupted interrupt (machine_of hart.old csrs.old bytes writable) }
@@ -237,10 +236,6 @@ fn execute_permitted(
             pass(hart, csrs);
             answer
         }
-        SystemRow::FenceI => {
-            pass(hart, csrs);
-            MachineAnswer::Retired
-        }
         _ => execute_csr(hart, csrs, inputs, instruction, word),
     }
 }
@@ -267,148 +262,178 @@ fn execute_system(
     }
 }
 
-/// The opcode of the accesses whose exceptions an instruction of extension A has.
-fn opcode_like(row: AtomicRow) -> u32
-    ensures { result ≡ opcode_like row }
+/// The instruction of machine mode that an encoding is: one on a CSR, `mret` or `wfi`.
+pub(crate) fn system_in(encoding: Encoding) -> Option<SystemInstruction>
+    ensures own { IfSome result (λ i. IsOwn encoding i.row i.fields) }
+    ensures outside { IfNone result ((row : TheRow) (f : IFields) → ¬ IsOwn encoding row f) }
 {
-    match row {
-        AtomicRow::LrW => 0x03,
-        _ => 0x23,
+    match encoding {
+        Encoding::Short(_) => None,
+        Encoding::Long(word) => own_word(word),
     }
 }
 
-/// Goes on after an instruction of extension A, or raises its exception.
-fn end_atomic(
+/// The instruction of machine mode that a word is.
+fn own_word(word: u32) -> Option<SystemInstruction>
+    ensures own { IfSome result (λ i. IsOwn (Long word) i.row i.fields) }
+    ensures outside { IfNone result ((row : TheRow) (f : IFields) → ¬ IsOwn (Long word) row f) }
+{
+    if decode(word).is_some() {
+        return None;
+    }
+    match decode_system(word) {
+        Some(instruction) => {
+            if instruction.row == SystemRow::FenceI {
+                None
+            } else {
+                Some(instruction)
+            }
+        }
+        None => None,
+    }
+}
+
+/// Whether an instruction may lie at an address.
+fn may_lie(profile: HartProfile, address: u32) -> bool
+    ensures { result ≡ may_lie profile address }
+{
+    profile.compressed || address % 4 == 0
+}
+
+/// Ends a step of the hart that was `Ok`, from these registers and this pc.
+fn end_executed(
     hart: &mut HartState,
     csrs: &mut CsrFile,
-    row: AtomicRow,
-    answer: Result<(), InstructionException>,
+    registers: &[u32; 32],
+    pc: u32,
 ) -> MachineAnswer
-    ensures ended { (bytes : ByteMap) (writable : ℕ → Bool)
-        → ends (machine_of hart.new csrs.new bytes writable) result
-        ≡ atomic_ended row (state_of hart.old bytes writable) csrs.old answer }
+    ensures step { (inputs : InputsOfStep) (bytes : ByteMap) (writable : ℕ → Bool)
+        (s : MachineState) → IsBefore csrs.old s
+        → s.hart.registers ≡ drop 1 registers.now → s.hart.pc ≡ pc
+        → HartStep (layers_of s) (hart_in s)
+        (hart_with (state_of hart.old bytes writable) csrs.old.reservation) (Ok tt)
+        → InstructionStep inputs s (machine_of hart.new csrs.new bytes writable) result }
+    ensures entry_zero { slice_index hart.old.registers 0 ≡ slice_index registers.now 0
+        → slice_index hart.new.registers 0 ≡ slice_index registers.now 0 }
+{
+    let target = hart.pc;
+    if may_lie(csrs.profile.hart, target) {
+        csrs.count_retired();
+        return MachineAnswer::Retired;
+    }
+    hart.registers = *registers;
+    hart.pc = pc;
+    raise(hart, csrs, Exception::InstructionMisaligned(target))
+}
+
+/// Ends a step of the hart that raised a fault: an instruction of machine mode is executed, and the
+/// exception of another one is raised.
+fn end_fault(
+    hart: &mut HartState,
+    csrs: &mut CsrFile,
+    inputs: &Inputs,
+    fetched: Result<Encoding, InstructionException>,
+    fault: InstructionException,
+) -> MachineAnswer
+    ensures step { (bytes : ByteMap) (writable : ℕ → Bool) (s : MachineState)
+        → IsBefore csrs.old s → fetched_at s ≡ fetched
+        → HartStep (layers_of s) (hart_in s)
+        (hart_with (state_of hart.old bytes writable) csrs.old.reservation) (Err fault)
+        → InstructionStep inputs.now s (machine_of hart.new csrs.new bytes writable) result }
+    ensures entry_zero { slice_index hart.new.registers 0 ≡ slice_index hart.old.registers 0 }
+{
+    match fetched {
+        Ok(encoding) => match system_in(encoding) {
+            Some(instruction) => {
+                execute_system(hart, csrs, inputs, &instruction, bits_of(encoding))
+            }
+            None => raise_fault(hart, csrs, fetched, fault),
+        },
+        Err(_) => raise_fault(hart, csrs, fetched, fault),
+    }
+}
+
+/// Raises the exception of a fault of the hart.
+fn raise_fault(
+    hart: &mut HartState,
+    csrs: &mut CsrFile,
+    fetched: Result<Encoding, InstructionException>,
+    fault: InstructionException,
+) -> MachineAnswer
+    ensures raised { (bytes : ByteMap) (writable : ℕ → Bool) → (kind : Kind)
+        × IsKind csrs.old.profile.hart fetched kind
+        × (machine_of hart.new csrs.new bytes writable
+        ≡ raised (exception_of (mode_of csrs.old) kind fault)
+        (machine_of hart.old csrs.old bytes writable))
+        × (result ≡ MachineAnswer.Raised (exception_of (mode_of csrs.old) kind fault)) }
     ensures registers_kept { hart.new.registers ≡ hart.old.registers }
 {
-    match answer {
-        Ok(()) => {
-            hart.pc = hart.pc.wrapping_add(4);
-            csrs.count_retired();
-            MachineAnswer::Retired
-        }
-        Err(fault) => {
-            let exception = exception_of_word(csrs.mode(), opcode_like(row), fault);
-            raise(hart, csrs, exception)
-        }
+    let kind = kind_of(csrs.profile.hart, fetched);
+    raise(hart, csrs, exception_of(csrs.mode(), kind, fault))
+}
+
+/// Ends an instruction whose step the hart made, from these registers and this pc.
+pub(crate) fn end_step(
+    hart: &mut HartState,
+    csrs: &mut CsrFile,
+    inputs: &Inputs,
+    registers: &[u32; 32],
+    pc: u32,
+    end: &HartEnd,
+) -> MachineAnswer
+    ensures step { (bytes : ByteMap) (writable : ℕ → Bool) (s : MachineState)
+        → IsBefore csrs.old s → s.hart.registers ≡ drop 1 registers.now → s.hart.pc ≡ pc
+        → fetched_at s ≡ end.now.fetched
+        → HartStep (layers_of s) (hart_in s)
+        (hart_with (state_of hart.old bytes writable) csrs.old.reservation) end.now.answer
+        → InstructionStep inputs.now s (machine_of hart.new csrs.new bytes writable) result }
+    ensures entry_zero { slice_index hart.old.registers 0 ≡ slice_index registers.now 0
+        → slice_index hart.new.registers 0 ≡ slice_index registers.now 0 }
+{
+    match end.answer {
+        Ok(()) => end_executed(hart, csrs, registers, pc),
+        Err(fault) => end_fault(hart, csrs, inputs, end.fetched, fault),
     }
 }
 
-/// Executes an instruction of extension A.
-fn swap<M: Memory>(
+/// A step of the hart: what was fetched, and how it ended.
+#[derive(Clone, Copy)]
+pub(crate) struct HartEnd {
+    /// The instruction, or the exception of the fetch.
+    pub fetched: Result<Encoding, InstructionException>,
+    /// The answer of the step.
+    pub answer: Result<(), InstructionException>,
+}
+
+/// Makes the step of the hart.
+fn step_layers<M: Memory>(
     mem: &mut M,
     hart: &mut HartState,
-    csrs: &mut CsrFile,
-    instruction: &AtomicInstruction,
-) -> MachineAnswer
-    requires { HasRegisters (R instruction.now.fields) }
-    ensures outcome { ends (machine_of hart.new csrs.new (M.bytes mem.new) (M.writable mem.new))
-        result ≡ atomic_step instruction.now.row instruction.now.fields
-        (machine_of hart.old csrs.old (M.bytes mem.old) (M.writable mem.old)) }
-    ensures makes { Makes M.reads M.writes
-        (accesses_of_atomic instruction.now.row instruction.now.fields
-        (cleared (state_of hart.old (M.bytes mem.old) (M.writable mem.old))) csrs.old.reservation)
+    reservation: &mut Option<u32>,
+    profile: HartProfile,
+) -> HartEnd
+    ensures fetched { result.fetched ≡ fetched_in profile (M.bytes mem.old) hart.old.pc }
+    ensures step { HartStep profile
+        (hart_with (state_of hart.old (M.bytes mem.old) (M.writable mem.old)) reservation.old)
+        (hart_with (state_of hart.new (M.bytes mem.new) (M.writable mem.new)) reservation.new)
+        result.answer }
+    ensures accesses { MakesExactly M.reads M.writes (AccessesOfHart profile
+        (hart_with (state_of hart.old (M.bytes mem.old) (M.writable mem.old)) reservation.old))
         mem.old mem.new }
     ensures layout_kept { M.layout mem.new ≡ M.layout mem.old }
     ensures entry_zero { slice_index hart.new.registers 0 ≡ slice_index hart.old.registers 0 }
 {
-    hart.last_register_write = None;
-    let (row, fields) = (instruction.row, &instruction.fields);
-    let answer = execute_atomic(mem, hart, &mut csrs.reservation, row, fields);
-    end_atomic(hart, csrs, row, answer)
-}
-
-/// The instruction of extension A that a word is, where the hart has it.
-pub(crate) fn atomic_of(profile: Profile, word: u32) -> Option<AtomicInstruction>
-    ensures decoded { IfSome result (λ i. IsAtomicOf profile word i.row i.fields) }
-    ensures outside { IfNone result ((row : TheAtomicRow) (f : RFields)
-        → ¬ IsAtomicOf profile word row f) }
-{
-    if profile.atomics {
-        decode_atomic(word)
-    } else {
-        None
-    }
-}
-
-/// Executes a word that is none of the 48 rows: an instruction that they leave out, or an illegal
-/// one. Its accesses come after the fetch.
-pub(crate) fn execute_outside<M: Memory>(
-    mem: &mut M,
-    hart: &mut HartState,
-    csrs: &mut CsrFile,
-    inputs: &Inputs,
-    word: u32,
-) -> MachineAnswer
-    requires { IsIllegal word }
-    ensures step { hart.old.pc % 4 ≡ 0
-        → little_endian (M.bytes mem.old) hart.old.pc 4 ≡ Some word → InstructionStep inputs.now
-        (machine_of hart.old csrs.old (M.bytes mem.old) (M.writable mem.old))
-        (machine_of hart.new csrs.new (M.bytes mem.new) (M.writable mem.new)) result }
-    ensures makes { hart.old.pc % 4 ≡ 0
-        → little_endian (M.bytes mem.old) hart.old.pc 4 ≡ Some word
-        → (accesses : List Access) × AccessesOfInstruction
-        (machine_of hart.old csrs.old (M.bytes mem.old) (M.writable mem.old))
-        (fetch (state_of hart.old (M.bytes mem.old) (M.writable mem.old)) ∷ accesses)
-        × Makes M.reads M.writes accesses mem.old mem.new }
-    ensures layout_kept { M.layout mem.new ≡ M.layout mem.old }
-    ensures entry_zero { slice_index hart.new.registers 0 ≡ slice_index hart.old.registers 0 }
-{
-    if let Some(instruction) = decode_system(word) {
-        return execute_system(hart, csrs, inputs, &instruction, word);
-    }
-    if let Some(instruction) = atomic_of(csrs.profile, word) {
-        return swap(mem, hart, csrs, &instruction);
-    }
-    raise(hart, csrs, Exception::IllegalInstruction(word))
-}
-
-/// Executes an instruction of the 48 rows, whose word is at the pc.
-#[inline(always)]
-fn execute<M: Memory>(
-    mem: &mut M,
-    hart: &mut HartState,
-    csrs: &mut CsrFile,
-    instruction: &Instruction,
-    word: u32,
-) -> MachineAnswer
-    requires aligned { hart.old.pc % 4 ≡ 0 }
-    requires word { little_endian (M.bytes mem.old) hart.old.pc 4 ≡ Some word }
-    requires is { IsInstruction word instruction.now }
-    ensures step { (inputs : InputsOfStep) → InstructionStep inputs
-        (machine_of hart.old csrs.old (M.bytes mem.old) (M.writable mem.old))
-        (machine_of hart.new csrs.new (M.bytes mem.new) (M.writable mem.new)) result }
-    ensures makes { Makes M.reads M.writes
-        (accesses_of_row (row_of instruction.now) (fields_of instruction.now)
-        (cleared (state_of hart.old (M.bytes mem.old) (M.writable mem.old)))) mem.old mem.new }
-    ensures layout_kept { M.layout mem.new ≡ M.layout mem.old }
-    ensures entry_zero { slice_index hart.new.registers 0 ≡ slice_index hart.old.registers 0 }
-{
-    let before = hart.registers;
-    let end = execute_parts(mem, &mut hart.registers, hart.pc, instruction);
-    match end.answer {
-        Ok(()) => {
-            if end.pc % 4 == 0 {
-                hart.pc = end.pc;
-                hart.last_register_write = end.last_register_write;
-                csrs.count_retired();
-                MachineAnswer::Retired
-            } else {
-                hart.registers = before;
-                raise(hart, csrs, Exception::InstructionMisaligned(end.pc))
-            }
-        }
+    match fetch_in(mem, profile, hart.pc) {
+        Ok(encoding) => HartEnd {
+            fetched: Ok(encoding),
+            answer: execute_in(mem, hart, reservation, profile, encoding),
+        },
         Err(fault) => {
-            let exception = exception_of_word(csrs.mode(), word, fault);
-            raise(hart, csrs, exception)
+            hart.last_register_write = None;
+            HartEnd {
+                fetched: Err(fault),
+                answer: Err(fault),
+            }
         }
     }
 }
@@ -424,22 +449,17 @@ fn step_instruction<M: Memory>(
     ensures step { InstructionStep inputs.now
         (machine_of hart.old csrs.old (M.bytes mem.old) (M.writable mem.old))
         (machine_of hart.new csrs.new (M.bytes mem.new) (M.writable mem.new)) result }
-    ensures accesses { MakesExactly M.reads M.writes (AccessesOfInstruction
-        (machine_of hart.old csrs.old (M.bytes mem.old) (M.writable mem.old))) mem.old mem.new }
+    ensures accesses { MakesExactly M.reads M.writes (AccessesOfHart csrs.old.profile.hart
+        (hart_with (state_of hart.old (M.bytes mem.old) (M.writable mem.old)) csrs.old.reservation))
+        mem.old mem.new }
     ensures layout_kept { M.layout mem.new ≡ M.layout mem.old }
     ensures entry_zero { slice_index hart.new.registers 0 ≡ slice_index hart.old.registers 0 }
 {
-    let word = match fetch_word(mem, hart.pc) {
-        Ok(word) => word,
-        Err(fault) => {
-            let exception = exception_of_fetch(csrs.mode(), fault);
-            return raise(hart, csrs, exception);
-        }
-    };
-    match decode(word) {
-        Some(instruction) => execute(mem, hart, csrs, &instruction, word),
-        None => execute_outside(mem, hart, csrs, inputs, word),
-    }
+    let registers = hart.registers;
+    let pc = hart.pc;
+    let profile = csrs.profile.hart;
+    let end = step_layers(mem, hart, &mut csrs.reservation, profile);
+    end_step(hart, csrs, inputs, &registers, pc, &end)
 }
 
 /// Makes a step of a hart with machine mode: takes an interrupt, or else executes the instruction
@@ -454,24 +474,25 @@ fn step_instruction<M: Memory>(
 /// machine mode, the counters that `mcounteren` hides, and `wfi` where TW is 1 are illegal
 /// instructions.
 ///
-/// Where the profile has extension A, its instructions do what `execute_atomic` of `rrs_hart`
-/// does, with the reservation among the CSRs. An `lr.w` that is misaligned or refused raises the
-/// exception of a load, and the others raise that of a store. No trap and no `mret` takes the
-/// reservation away.
+/// An instruction of the hart does what `step_hart` of `rrs_hart` does, by the layers of the
+/// profile, with the reservation among the CSRs. Where there are compressed instructions, one lies
+/// at any even address. An `lr.w` that is misaligned or refused raises the exception of a load, and
+/// the others of extension A raise that of a store. No trap and no `mret` takes the reservation
+/// away.
 ///
 /// An exception is no error here: the hart takes the trap, and is at its handler. A jump or a taken
-/// branch to a misaligned address raises its exception at the jump, with no register written. A
+/// branch to an address where no instruction may lie raises its exception at the jump, with no
+/// register written. A
 /// `wfi` that nothing wakes is `Waiting`: it has retired, the hart is after it, and the caller
 /// decides what passes meanwhile. `mcycle` counts each step, and `minstret` those that are
 /// `Retired` or `Waiting`.
 ///
 /// The clauses: what happened is a step (`step`), and no other one leads from there (`only`); what
 /// is no part of the state stays (`rest`); the memory goes from what it was to what it is by
-/// exactly the accesses of the step: those of the kit's step, for extension A the fetch and those
-/// of `execute_atomic`, or none where an interrupt is taken (`accesses`). Four more are laws that
-/// follow from these. Where no instruction retires, registers and bytes stay (`traps`). An
-/// instruction that retires, and is none of those that the 48 rows leave out, is a step of the kit
-/// (`kit`). While IR of `mcountinhibit` is 0 and the instruction does not write it, `minstret`
+/// exactly the accesses of the step: those of the hart's step, or none where an interrupt is taken
+/// (`accesses`). Four more are laws that follow from these. Where no instruction retires, registers
+/// and bytes stay (`traps`). An instruction that retires, and is none of those that machine mode
+/// has, is a step of the hart (`hart`). While IR of `mcountinhibit` is 0 and the instruction does not write it, `minstret`
 /// counts the instructions that retire (`minstret`). Likewise, by CY, `mcycle` counts the steps
 /// (`mcycle`).
 #[inline(always)]
@@ -492,11 +513,11 @@ pub fn step_machine<M: Memory>(
         executor.old.mem.now executor.new.mem.now }
     ensures traps { KeepsUnlessRetired result (state_in M.bytes M.writable executor.old)
         (state_in M.bytes M.writable executor.new) }
-    ensures kit { result ≡ MachineAnswer.Retired
-        → IsNoSystem (state_in M.bytes M.writable executor.old)
-        → IsNoAtomic (machine_in M.bytes M.writable executor.old csrs.old)
-        → Step (state_in M.bytes M.writable executor.old)
-        (state_in M.bytes M.writable executor.new) (Ok tt) }
+    ensures hart { result ≡ MachineAnswer.Retired
+        → IsNoSystem (machine_in M.bytes M.writable executor.old csrs.old)
+        → HartStep csrs.old.profile.hart
+        (hart_in (machine_in M.bytes M.writable executor.old csrs.old))
+        (hart_in (machine_in M.bytes M.writable executor.new csrs.new)) (Ok tt) }
     ensures minstret { bit csrs.old.mcountinhibit 2 ≡ 0
         → WritesNeither Csr.Minstret Csr.Minstreth (machine_in M.bytes M.writable executor.old csrs.old)
         → csrs.new.minstret ≡ instructions_after result csrs.old.minstret }

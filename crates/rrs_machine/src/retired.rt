@@ -1,34 +1,37 @@
 //! What a step of a hart with machine mode retires, in the shape of RVFI.
 
-ghost use Rattle.std.specs.Prelude.{slice_index, drop, ◌≡◌, ◌<◌, ◌&&◌, ℕ, List, true, false, Some, None, Option};
+ghost use Rattle.std.specs.Prelude.{slice_index, drop, ◌≡◌, ◌<◌, ◌&&◌, ◌++◌, ℕ, List, true, false, Some, None, Option};
 ghost use Rattle.rrs_instruction.specs.declared.instruction_formats.IType.{IType as IFields};
-ghost use Rattle.rrs_instruction.specs.Table.{Row, Decodes, IsIllegal};
+ghost use Rattle.rrs_instruction.specs.Table.{Row};
+ghost use Rattle.rrs_instruction.specs.Encodings.{HasRegisters, I, Fields};
 ghost use Rattle.rrs_words.specs.declared.csrs.Csr.{Csr as TheCsr};
 ghost use Rattle.rrs_words.specs.declared.instructions.SystemRow.{SystemRow as TheRow};
-ghost use Rattle.rrs_instruction.specs.Encodings.{HasRegisters, I, Fields};
-ghost use Rattle.rrs_lib.specs.Machine.{State};
-ghost use Rattle.rrs_lib.specs.Executor.{KeepsTheRest};
-ghost use Rattle.rrs_lib.specs.Accesses.{Access, MakesExactly};
-ghost use Rattle.rrs_trace.specs.Retired.{no_access, after_fetch, first_source, second_source, HasRegisterNumbers};
-ghost use Rattle.rrs_trace.specs.Traced.{traced_state};
+ghost use Rattle.rrs_words.specs.declared.layers.LayerInstruction.{LayerInstruction as Layer};
 ghost use Rattle.rrs_words.specs.CsrNumbers.{csr_at};
+ghost use Rattle.rrs_words.specs.SystemInstructions.{csr_number};
+ghost use Rattle.rrs_lib.specs.Machine.{State, state_of};
+ghost use Rattle.rrs_lib.specs.Executor.{KeepsTheRest};
+ghost use Rattle.rrs_lib.specs.Accesses.{MakesExactly};
+ghost use Rattle.rrs_hart.specs.declared.halves.Encoding.{Encoding as TheEncoding};
+ghost use Rattle.rrs_hart.specs.Halves.{StandsFor, IsNoRow, IsLayers, IsIllegalIn};
+ghost use Rattle.rrs_lib.specs.Steps.{StepAnswer};
+ghost use Rattle.rrs_hart.specs.Harts.{Hart, hart_with, fetched_in, HartStep, AccessesOfHart};
+ghost use Rattle.rrs_trace.specs.Retired.{first_source, second_source, HasRegisterNumbers};
+ghost use Rattle.rrs_trace.specs.HartRecords.{first_of_layer, second_of_layer, HasAccess};
 ghost use Rattle.rrs_machine.specs.Csrs.{csr_value};
-ghost use Rattle.rrs_words.specs.SystemInstructions.{IsSystem, csr_number};
-ghost use Rattle.rrs_machine.specs.MachineSteps.{MachineState, machine, machine_of, machine_in, MachineStep, IsOnlyMachineStep, AccessesOfMachineStep, operand_of, IsAtomicOf};
-ghost use Rattle.rrs_words.specs.declared.atomics.AtomicRow.{AtomicRow as TheAtomicRow};
-ghost use Rattle.rrs_instruction.specs.declared.instruction_formats.RType.{RType as RFields};
-ghost use Rattle.rrs_machine.specs.MachineRecords.{word_of_step, system_source, HasSourcesOf, reads_csr, is_on_csr, no_csr, csr_access, HasCsrAccess, is_instruction, is_raised, cause_of, MachineRetires};
+ghost use Rattle.rrs_machine.specs.MachineSteps.{machine, machine_of, machine_in, IsOwn, InstructionStep, MachineStep, IsOnlyMachineStep, AccessesOfMachineStep, operand_of};
+ghost use Rattle.rrs_machine.specs.MachineRecords.{fetched_encoding, encoding_of_step, bits_if, system_source, HasSourcesOf, reads_csr, is_on_csr, no_csr, csr_access, HasCsrAccess, HasAccessOf, is_instruction, is_raised, cause_of, MachineRetires};
 
 use crate::csrs::{CsrFile, Inputs};
-use crate::machine::{MachineAnswer, atomic_of, step_machine};
+use crate::machine::{HartEnd, MachineAnswer, end_step, interrupt, system_in};
+use rrs_hart::{Encoding, HartProfile, bits_of, fetch_in};
 use rrs_instruction::arithmetic;
-use rrs_lib::instruction::decode;
 use rrs_lib::instruction_executor::InstructionExecutor;
 use rrs_lib::{HartState, Memory};
 use rrs_trace::{
-    MemoryAccess, Retired, TracedMemory, last_register, register_value, source_registers,
+    MemoryAccess, Retired, execute_in_seen, last_register, register_value, sources_in,
 };
-use rrs_words::{Csr, Profile, SystemInstruction, SystemRow, decode_system};
+use rrs_words::{Csr, Profile, SystemInstruction, SystemRow};
 
 /// What was read and written of a CSR, under the names of RVFI (`rvfi_csr_*`), or none: then all
 /// fields are 0.
@@ -77,7 +80,7 @@ fn no_csr() -> CsrAccess
     }
 }
 
-/// The source register of an instruction that the 48 rows leave out, or 0.
+/// The source register of an instruction of machine mode, or 0.
 fn system_source(instruction: &SystemInstruction) -> usize
     requires { HasRegisters (I instruction.now.fields) }
     ensures source { result ≡ system_source instruction.now.row instruction.now.fields }
@@ -89,58 +92,25 @@ fn system_source(instruction: &SystemInstruction) -> usize
     }
 }
 
-/// The source registers of a word of extension A, or 0.
-fn atomic_sources(profile: Profile, word: u32) -> (usize, usize)
-    ensures of_atomic { (row : TheAtomicRow) (f : RFields) → IsAtomicOf profile word row f
-        → (result.0 ≡ f.rs1) × (result.1 ≡ f.rs2) }
-    ensures of_none { ((row : TheAtomicRow) (f : RFields) → ¬ IsAtomicOf profile word row f)
-        → (result.0 ≡ 0) × (result.1 ≡ 0) }
+/// The source registers of what was fetched, 0 where nothing was.
+fn sources_of(profile: HartProfile, encoding: Option<Encoding>) -> (usize, usize)
+    ensures of_row { (x : TheEncoding) (row : Row) (f : Fields) → encoding ≡ Some x
+        → StandsFor x row f → (result.0 ≡ first_source f) × (result.1 ≡ second_source f) }
+    ensures of_layer { (x : TheEncoding) (i : Layer) → encoding ≡ Some x → IsNoRow x
+        → IsLayers profile x i → (result.0 ≡ first_of_layer i) × (result.1 ≡ second_of_layer i) }
+    ensures of_system { (x : TheEncoding) (row : TheRow) (f : IFields) → encoding ≡ Some x
+        → IsOwn x row f → (result.0 ≡ system_source row f) × (result.1 ≡ 0) }
+    ensures of_illegal { (x : TheEncoding) → encoding ≡ Some x → IsIllegalIn profile x
+        → ((row : TheRow) (f : IFields) → ¬ IsOwn x row f) → (result.0 ≡ 0) × (result.1 ≡ 0) }
+    ensures of_none { encoding ≡ None → (result.0 ≡ 0) × (result.1 ≡ 0) }
     ensures low { (result.0 < 32) × (result.1 < 32) }
 {
-    match atomic_of(profile, word) {
-        Some(instruction) => (instruction.fields.rs1, instruction.fields.rs2),
-        None => (0, 0),
-    }
-}
-
-/// The source registers of a word that is none of the 48 rows, or 0.
-fn sources_outside(profile: Profile, word: u32) -> (usize, usize)
-    ensures of_system { (row : TheRow) (f : IFields) → IsSystem word row f
-        → (result.0 ≡ system_source row f) × (result.1 ≡ 0) }
-    ensures of_atomic { (row : TheAtomicRow) (f : RFields) → IsAtomicOf profile word row f
-        → (result.0 ≡ f.rs1) × (result.1 ≡ f.rs2) }
-    ensures of_none { ((row : TheRow) (f : IFields) → ¬ IsSystem word row f)
-        → ((row : TheAtomicRow) (f : RFields) → ¬ IsAtomicOf profile word row f)
-        → (result.0 ≡ 0) × (result.1 ≡ 0) }
-    ensures low { (result.0 < 32) × (result.1 < 32) }
-{
-    match decode_system(word) {
-        Some(instruction) => (system_source(&instruction), 0),
-        None => atomic_sources(profile, word),
-    }
-}
-
-/// The source registers of a word, 0 where there is none.
-fn sources_of(profile: Profile, word: Option<u32>) -> (usize, usize)
-    ensures of_row { (w : ℕ) (row : Row) (f : Fields) → word ≡ Some w → Decodes w row f
-        → (result.0 ≡ first_source f) × (result.1 ≡ second_source f) }
-    ensures of_system { (w : ℕ) (row : TheRow) (f : IFields) → word ≡ Some w → IsIllegal w
-        → IsSystem w row f → (result.0 ≡ system_source row f) × (result.1 ≡ 0) }
-    ensures of_atomic { (w : ℕ) (row : TheAtomicRow) (f : RFields) → word ≡ Some w → IsIllegal w
-        → IsAtomicOf profile w row f → (result.0 ≡ f.rs1) × (result.1 ≡ f.rs2) }
-    ensures of_illegal { (w : ℕ) → word ≡ Some w → IsIllegal w
-        → ((row : TheRow) (f : IFields) → ¬ IsSystem w row f)
-        → ((row : TheAtomicRow) (f : RFields) → ¬ IsAtomicOf profile w row f)
-        → (result.0 ≡ 0) × (result.1 ≡ 0) }
-    ensures of_none { word ≡ None → (result.0 ≡ 0) × (result.1 ≡ 0) }
-    ensures low { (result.0 < 32) × (result.1 < 32) }
-{
-    let Some(word) = word else {
+    let Some(encoding) = encoding else {
         return (0, 0);
     };
-    match decode(word) {
-        Some(instruction) => source_registers(&instruction),
-        None => sources_outside(profile, word),
+    match system_in(encoding) {
+        Some(instruction) => (system_source(&instruction), 0),
+        None => sources_in(profile, encoding),
     }
 }
 
@@ -199,7 +169,7 @@ fn access_of(
 fn is_on_csr(row: SystemRow) -> bool
     ensures { result ≡ is_on_csr row }
 {
-    !matches!(row, SystemRow::Mret | SystemRow::Wfi | SystemRow::FenceI)
+    !matches!(row, SystemRow::Mret | SystemRow::Wfi)
 }
 
 /// What an instruction accesses of a CSR, by the CSRs and the registers before.
@@ -229,17 +199,22 @@ fn csr_of_instruction(
     access_of(csrs.profile, instruction, csr, old, operand)
 }
 
-/// What a word accesses of a CSR.
-fn csr_of_word(word: u32, csrs: &CsrFile, inputs: &Inputs, registers: &[u32; 32]) -> CsrAccess
+/// What an encoding accesses of a CSR.
+fn csr_of_encoding(
+    encoding: Encoding,
+    csrs: &CsrFile,
+    inputs: &Inputs,
+    registers: &[u32; 32],
+) -> CsrAccess
     ensures of_csr { (s : State) (row : TheRow) (f : IFields) (csr : TheCsr)
-        → s.registers ≡ drop 1 registers.now → IsSystem word row f → is_on_csr row ≡ true
+        → s.registers ≡ drop 1 registers.now → IsOwn encoding row f → is_on_csr row ≡ true
         → csr_at csrs.now.profile (csr_number f) ≡ Some csr
         → result ≡ csr_access csrs.now.profile row f csr (csr_value csr csrs.now inputs.now)
         (operand_of row f s) }
-    ensures of_other { ((row : TheRow) (f : IFields) → IsSystem word row f
+    ensures of_other { ((row : TheRow) (f : IFields) → IsOwn encoding row f
         → is_on_csr row ≡ false) → result ≡ no_csr }
 {
-    match decode_system(word) {
+    match system_in(encoding) {
         Some(instruction) => csr_of_instruction(&instruction, csrs, inputs, registers),
         None => no_csr(),
     }
@@ -247,20 +222,20 @@ fn csr_of_word(word: u32, csrs: &CsrFile, inputs: &Inputs, registers: &[u32; 32]
 
 /// What a step accesses of a CSR.
 fn csr_of_step(
-    word: Option<u32>,
+    encoding: Option<Encoding>,
     answer: MachineAnswer,
     csrs: &CsrFile,
     inputs: &Inputs,
     registers: &[u32; 32],
 ) -> CsrAccess
     ensures { (s : State) → s.registers ≡ drop 1 registers.now
-        → HasCsrAccess word answer inputs.now (machine s csrs.now) result }
+        → HasCsrAccess encoding answer inputs.now (machine s csrs.now) result }
 {
     if answer != MachineAnswer::Retired {
         return no_csr();
     }
-    match word {
-        Some(word) => csr_of_word(word, csrs, inputs, registers),
+    match encoding {
+        Some(encoding) => csr_of_encoding(encoding, csrs, inputs, registers),
         None => no_csr(),
     }
 }
@@ -290,36 +265,49 @@ fn cause_of(answer: MachineAnswer) -> Option<u32>
     }
 }
 
-/// Makes a step over a memory that is traced, and that nothing has accessed yet.
-fn trace_step<'b, M: Memory>(
-    traced: &mut TracedMemory<'b, M>,
+/// The bits of what was fetched.
+fn bits_if(encoding: Option<Encoding>) -> Option<u32>
+    ensures { result ≡ bits_if encoding }
+{
+    match encoding {
+        Some(encoding) => Some(bits_of(encoding)),
+        None => None,
+    }
+}
+
+/// Makes the step of the hart, and tells its load or its store.
+fn see_layers<M: Memory>(
+    mem: &mut M,
     hart: &mut HartState,
-    csrs: &mut CsrFile,
-    inputs: &Inputs,
-) -> MachineAnswer
-    requires first { traced.old.is_fetch ≡ true }
-    requires no_word { traced.old.insn ≡ None }
-    requires no_access { traced.old.access ≡ no_access }
-    ensures step { MachineStep inputs.now
-        (machine (traced_state M.bytes M.writable hart.old traced.old) csrs.old)
-        (machine (traced_state M.bytes M.writable hart.new traced.new) csrs.new) result }
-    ensures insn { traced.new.insn ≡ word_of_step inputs.now
-        (machine (traced_state M.bytes M.writable hart.old traced.old) csrs.old) }
-    ensures access { (accesses : List Access) → AccessesOfMachineStep inputs.now
-        (machine (traced_state M.bytes M.writable hart.old traced.old) csrs.old) accesses
-        → traced.new.access ≡ after_fetch accesses }
-    ensures accesses { MakesExactly M.reads M.writes (AccessesOfMachineStep inputs.now
-        (machine (traced_state M.bytes M.writable hart.old traced.old) csrs.old))
-        traced.old.memory.now traced.new.memory.now }
-    ensures same_memory { traced.new.memory.ghost_name ≡ traced.old.memory.ghost_name }
-    ensures layout_kept { M.layout traced.new.memory.now ≡ M.layout traced.old.memory.now }
+    reservation: &mut Option<u32>,
+    profile: HartProfile,
+) -> (HartEnd, MemoryAccess)
+    ensures fetched { result.0.fetched ≡ fetched_in profile (M.bytes mem.old) hart.old.pc }
+    ensures step { HartStep profile
+        (hart_with (state_of hart.old (M.bytes mem.old) (M.writable mem.old)) reservation.old)
+        (hart_with (state_of hart.new (M.bytes mem.new) (M.writable mem.new)) reservation.new)
+        result.0.answer }
+    ensures access { HasAccess profile
+        (hart_with (state_of hart.old (M.bytes mem.old) (M.writable mem.old)) reservation.old)
+        result.0.answer result.1 }
+    ensures accesses { MakesExactly M.reads M.writes (AccessesOfHart profile
+        (hart_with (state_of hart.old (M.bytes mem.old) (M.writable mem.old)) reservation.old))
+        mem.old mem.new }
+    ensures layout_kept { M.layout mem.new ≡ M.layout mem.old }
     ensures entry_zero { slice_index hart.new.registers 0 ≡ slice_index hart.old.registers 0 }
 {
-    let mut executor = InstructionExecutor {
-        hart_state: hart,
-        mem: traced,
-    };
-    step_machine(&mut executor, csrs, inputs)
+    match fetch_in(mem, profile, hart.pc) {
+        Ok(encoding) => {
+            let (answer, access) = execute_in_seen(mem, hart, reservation, profile, encoding);
+            let fetched = Ok(encoding);
+            (HartEnd { fetched, answer }, access)
+        }
+        Err(fault) => {
+            hart.last_register_write = None;
+            let (fetched, answer) = (Err(fault), Err(fault));
+            (HartEnd { fetched, answer }, MemoryAccess::none())
+        }
+    }
 }
 
 /// What was seen of a step.
@@ -327,13 +315,47 @@ fn trace_step<'b, M: Memory>(
 struct SeenStep {
     /// How it ended.
     answer: MachineAnswer,
-    /// What the fetch read.
-    insn: Option<u32>,
-    /// The access after the fetch.
+    /// What was fetched, if anything was.
+    encoding: Option<Encoding>,
+    /// The load or the store.
     access: MemoryAccess,
 }
 
-/// Makes a step over a memory, which is traced for it.
+/// Executes the instruction at the pc.
+fn see_instruction<M: Memory>(
+    mem: &mut M,
+    hart: &mut HartState,
+    csrs: &mut CsrFile,
+    inputs: &Inputs,
+) -> SeenStep
+    ensures step { InstructionStep inputs.now
+        (machine_of hart.old csrs.old (M.bytes mem.old) (M.writable mem.old))
+        (machine_of hart.new csrs.new (M.bytes mem.new) (M.writable mem.new)) result.answer }
+    ensures encoding { result.encoding
+        ≡ fetched_encoding (fetched_in csrs.old.profile.hart (M.bytes mem.old) hart.old.pc) }
+    ensures access { (u : Hart) (answer : StepAnswer) → HartStep csrs.old.profile.hart (hart_with
+        (state_of hart.old (M.bytes mem.old) (M.writable mem.old)) csrs.old.reservation) u answer
+        → HasAccess csrs.old.profile.hart (hart_with (state_of hart.old (M.bytes mem.old)
+        (M.writable mem.old)) csrs.old.reservation) answer result.access }
+    ensures accesses { MakesExactly M.reads M.writes (AccessesOfHart csrs.old.profile.hart
+        (hart_with (state_of hart.old (M.bytes mem.old) (M.writable mem.old)) csrs.old.reservation))
+        mem.old mem.new }
+    ensures layout_kept { M.layout mem.new ≡ M.layout mem.old }
+    ensures entry_zero { slice_index hart.new.registers 0 ≡ slice_index hart.old.registers 0 }
+{
+    let registers = hart.registers;
+    let pc = hart.pc;
+    let profile = csrs.profile.hart;
+    let (end, access) = see_layers(mem, hart, &mut csrs.reservation, profile);
+    let answer = end_step(hart, csrs, inputs, &registers, pc, &end);
+    SeenStep {
+        answer,
+        encoding: end.fetched.ok(),
+        access,
+    }
+}
+
+/// Makes a step, and tells what was seen of it.
 fn see_step<M: Memory>(
     mem: &mut M,
     hart: &mut HartState,
@@ -343,33 +365,29 @@ fn see_step<M: Memory>(
     ensures step { MachineStep inputs.now
         (machine_of hart.old csrs.old (M.bytes mem.old) (M.writable mem.old))
         (machine_of hart.new csrs.new (M.bytes mem.new) (M.writable mem.new)) result.answer }
-    ensures insn { result.insn ≡ word_of_step inputs.now
+    ensures encoding { result.encoding ≡ encoding_of_step inputs.now
         (machine_of hart.old csrs.old (M.bytes mem.old) (M.writable mem.old)) }
-    ensures access { (accesses : List Access) → AccessesOfMachineStep inputs.now
-        (machine_of hart.old csrs.old (M.bytes mem.old) (M.writable mem.old)) accesses
-        → result.access ≡ after_fetch accesses }
+    ensures access { HasAccessOf inputs.now
+        (machine_of hart.old csrs.old (M.bytes mem.old) (M.writable mem.old)) result.access }
     ensures accesses { MakesExactly M.reads M.writes (AccessesOfMachineStep inputs.now
         (machine_of hart.old csrs.old (M.bytes mem.old) (M.writable mem.old))) mem.old mem.new }
     ensures layout_kept { M.layout mem.new ≡ M.layout mem.old }
     ensures entry_zero { slice_index hart.new.registers 0 ≡ slice_index hart.old.registers 0 }
 {
-    let mut traced = TracedMemory {
-        memory: mem,
-        is_fetch: true,
-        insn: None,
-        access: MemoryAccess::none(),
-    };
-    let answer = trace_step(&mut traced, hart, csrs, inputs);
-    SeenStep {
-        answer,
-        insn: traced.insn,
-        access: traced.access,
+    match csrs.interrupt_due(inputs) {
+        Some(due) => SeenStep {
+            answer: interrupt(hart, csrs, due),
+            encoding: None,
+            access: MemoryAccess::none(),
+        },
+        None => see_instruction(mem, hart, csrs, inputs),
     }
 }
 
 /// Makes a step of a hart with machine mode, and tells what it retired, with this number.
 ///
-/// The step is that of `step_machine`, with its answer and its accesses and no others. `is_first`
+/// The step is that of `step_machine`, with its answer and its accesses and no others. The load or
+/// the store that is told of one by bytes is that of all of them. `is_first`
 /// says that the step before took a trap, an exception or an interrupt: then an instruction is the
 /// first one of a handler, and has `intr`. Where an interrupt is taken there is no instruction:
 /// `valid` is not set, and the record has no word, register, access or CSR.
@@ -403,11 +421,11 @@ pub fn step_machine_retired<M: Memory>(
     let pc = executor.hart_state.pc;
     let before = *csrs;
     let seen = see_step(executor.mem, executor.hart_state, csrs, inputs);
-    let (rs1_addr, rs2_addr) = sources_of(before.profile, seen.insn);
+    let (rs1_addr, rs2_addr) = sources_of(before.profile.hart, seen.encoding);
     let rd_addr = last_register(executor.hart_state.last_register_write);
     let retired = Retired {
         order,
-        insn: seen.insn,
+        insn: bits_if(seen.encoding),
         trap: is_raised(seen.answer),
         pc_rdata: pc,
         pc_wdata: executor.hart_state.pc,
@@ -419,7 +437,7 @@ pub fn step_machine_retired<M: Memory>(
         rd_wdata: register_value(&executor.hart_state.registers, rd_addr),
         mem: seen.access,
     };
-    let csr = csr_of_step(seen.insn, seen.answer, &before, inputs, &registers);
+    let csr = csr_of_step(seen.encoding, seen.answer, &before, inputs, &registers);
     let mode = before.mode().number() as u8;
     let record = MachineRetired {
         retired,

@@ -1,17 +1,20 @@
 //! Exceptions and interrupts, and what they leave in the CSRs.
 
-ghost use Rattle.std.specs.Prelude.{◌≡◌, ◌↔◌, ◌+◌, ◌*◌, ◌/◌, ◌%◌, ◌^◌, ◌<◌, IsTrue};
+ghost use Rattle.std.specs.Prelude.{◌≡◌, ◌↔◌, ◌+◌, ◌*◌, ◌/◌, ◌%◌, ◌^◌, ◌<◌, Err, IsTrue};
 ghost use Rattle.std.specs.Bool.{OnTrue, OnFalse};
-ghost use Rattle.rrs_lib.specs.Steps.{next_word};
-ghost use Rattle.rrs_machine.specs.MachineSteps.{MachineState};
-ghost use Rattle.rrs_machine.specs.Runs.{TakesNone, StandsStill, IsDead};
-ghost use Rattle.rrs_machine.specs.Traps.{exception_code, exception_value, interrupt_code, is_ready, ready_interrupt, is_enabled, interrupt_due, mode_bits, trap_file, previous_mode, returned_mprv, return_file, base_of, vector_of, call_from, exception_of_word, exception_of_fetch};
+ghost use Rattle.rrs_instruction.specs.Instructions.{row_of};
+ghost use Rattle.rrs_instruction.specs.Table.{table};
+ghost use Rattle.rrs_machine.specs.MachineSteps.{MachineState, fetched_at};
+ghost use Rattle.rrs_machine.specs.Runs.{TakesNone, LeadsBack, StandsStill, IsDead};
+ghost use Rattle.rrs_machine.specs.Traps.{exception_code, exception_value, interrupt_code, is_ready, ready_interrupt, is_enabled, interrupt_due, mode_bits, trap_file, previous_mode, returned_mprv, return_file, base_of, vector_of, stores, layer_stores, IsStore, IsKind, misaligned, call_from, exception_of};
 
 use crate::csrs::{CsrFile, Inputs, Mode};
+use rrs_hart::{Encoding, layer_in, row_in};
 use rrs_instruction::arithmetic;
+use rrs_lib::instruction::Instruction;
 use rrs_lib::instruction_executor::InstructionException;
 use rrs_words::csrs::previous;
-use rrs_words::{Csr, Profile};
+use rrs_words::{AtomicRow, Csr, HartProfile, LayerInstruction, Profile};
 
 /// Why an instruction traps. Its address or its word is what `mtval` gets.
 #[derive(Debug, PartialEq, Clone, Copy)]
@@ -110,34 +113,93 @@ fn call_from(mode: Mode) -> Exception
     }
 }
 
-/// The exception of a word, in a mode, that the kit's machine ended a step with.
-pub(crate) fn exception_of_word(mode: Mode, word: u32, fault: InstructionException) -> Exception
-    ensures { result ≡ exception_of_word mode word fault }
+/// What accesses memory where an exception is raised. It names the exception of a misaligned
+/// address.
+#[derive(Debug, PartialEq, Clone, Copy)]
+pub enum AccessKind {
+    /// The fetch of an instruction.
+    Fetch,
+    /// An instruction that loads, an `lr.w` among them.
+    Load,
+    /// An instruction that stores, or another one of extension A.
+    Store,
+}
+
+/// Whether an instruction of the 48 rows is a store.
+fn stores(instruction: &Instruction) -> bool
+    ensures { result ≡ stores (table (row_of instruction.now)).action }
 {
-    match fault {
-        InstructionException::AlignmentFault(address) => {
-            if word % 0x80 == 0x23 {
-                Exception::StoreMisaligned(address)
+    matches!(
+        instruction,
+        Instruction::Sb(_) | Instruction::Sh(_) | Instruction::Sw(_)
+    )
+}
+
+/// Whether an instruction of a layer stores.
+fn layer_stores(instruction: &LayerInstruction) -> bool
+    ensures { result ≡ layer_stores instruction.now }
+{
+    match instruction {
+        LayerInstruction::System(_) | LayerInstruction::Bits(_) => false,
+        LayerInstruction::Atomic(atomic) => !matches!(atomic.row, AtomicRow::LrW),
+    }
+}
+
+/// Whether an encoding is a store or an AMO.
+fn is_store(profile: HartProfile, encoding: Encoding) -> bool
+    ensures { IsTrue result ↔ IsStore profile encoding }
+{
+    if let Some(instruction) = row_in(encoding) {
+        return stores(&instruction);
+    }
+    match layer_in(profile, encoding) {
+        Some(instruction) => layer_stores(&instruction),
+        None => false,
+    }
+}
+
+/// What accesses memory, by what was fetched.
+pub(crate) fn kind_of(
+    profile: HartProfile,
+    fetched: Result<Encoding, InstructionException>,
+) -> AccessKind
+    ensures { IsKind profile fetched result }
+{
+    match fetched {
+        Err(_) => AccessKind::Fetch,
+        Ok(encoding) => {
+            if is_store(profile, encoding) {
+                AccessKind::Store
             } else {
-                Exception::LoadMisaligned(address)
+                AccessKind::Load
             }
         }
+    }
+}
+
+/// The exception of a misaligned address.
+fn misaligned(kind: AccessKind, address: u32) -> Exception
+    ensures { result ≡ misaligned kind address }
+{
+    match kind {
+        AccessKind::Fetch => Exception::InstructionMisaligned(address),
+        AccessKind::Load => Exception::LoadMisaligned(address),
+        AccessKind::Store => Exception::StoreMisaligned(address),
+    }
+}
+
+/// The exception that a step of the hart ended with, in a mode.
+pub(crate) fn exception_of(mode: Mode, kind: AccessKind, fault: InstructionException) -> Exception
+    ensures { result ≡ exception_of mode kind fault }
+{
+    match fault {
+        InstructionException::AlignmentFault(address) => misaligned(kind, address),
         InstructionException::LoadAccessFault(address) => Exception::LoadFault(address),
         InstructionException::StoreAccessFault(address) => Exception::StoreFault(address),
         InstructionException::FetchError(address) => Exception::InstructionFault(address),
         InstructionException::IllegalInstruction(_, word) => Exception::IllegalInstruction(word),
         InstructionException::EnvironmentCall(_) => call_from(mode),
         InstructionException::Breakpoint(address) => Exception::Breakpoint(address),
-    }
-}
-
-/// The exception of a fetch.
-pub(crate) fn exception_of_fetch(mode: Mode, fault: InstructionException) -> Exception
-    ensures { result ≡ exception_of_fetch mode fault }
-{
-    match fault {
-        InstructionException::AlignmentFault(address) => Exception::InstructionMisaligned(address),
-        other => exception_of_word(mode, 0, other),
     }
 }
 
@@ -151,6 +213,16 @@ fn mode_bits(profile: Profile, mpp: u32, mprv: u32, tw: u32) -> u32
         mpp * 0x800 + mprv * 0x2_0000 + tw * 0x20_0000
     } else {
         0
+    }
+}
+
+/// Whether an instruction leads back to itself.
+fn leads_back(encoding: Encoding) -> bool
+    ensures { IsTrue result ↔ LeadsBack encoding }
+{
+    match encoding {
+        Encoding::Long(word) => word == 0x6f || word == 0x63,
+        Encoding::Short(half) => half == 0xa001,
     }
 }
 
@@ -275,37 +347,51 @@ impl CsrFile {
         self.interrupt_due(&all_pending).is_none()
     }
 
-    /// Whether the trap of a fetch at a pc leaves these CSRs as they are.
-    fn is_after_fault(&self, pc: u32) -> bool
-        ensures { IsTrue result ↔ (trap_file 1 pc pc self.now ≡ self.now) }
+    /// Whether the trap of a fetch at a pc, which found nothing at an address, leaves these CSRs as
+    /// they are.
+    fn is_after_fault(&self, pc: u32, address: u32) -> bool
+        ensures { IsTrue result ↔ (trap_file 1 address pc self.now ≡ self.now) }
     {
         let mut after = *self;
-        after.enter(1, pc, pc);
-        after == *self
+        after.enter(1, address, pc);
+        after.mode == self.mode
+            && after.mstatus == self.mstatus
+            && after.mepc == self.mepc
+            && after.mcause == self.mcause
+            && after.mtval == self.mtval
     }
 
-    /// Whether an instruction leads back to its pc, by the word there: it is `j .` or
-    /// `beq x0, x0, .`, or none is there, at the base of the handlers, after the trap of that.
-    fn leads_back(&self, pc: u32, word: Option<u32>) -> bool
-        ensures { IsTrue result ↔ StandsStill pc word self.now }
+    /// Whether nothing leads away from a pc where the fetch raises an exception: nothing is mapped
+    /// there, and it is the base of the handlers, after the trap of that.
+    fn traps_again(&self, pc: u32, fault: InstructionException) -> bool
+        ensures { IsTrue result ↔ StandsStill pc (Err fault) self.now }
     {
-        match word {
-            Some(word) => word == 0x6f || word == 0x63,
-            None => pc == self.base() && self.is_after_fault(pc),
+        match fault {
+            InstructionException::FetchError(address) => {
+                pc == self.base() && self.is_after_fault(pc, address)
+            }
+            _ => false,
         }
     }
 
-    /// Whether a hart with these CSRs stands still at a pc with this word, or none: no interrupt
-    /// can be taken, and the instruction leads back to it.
+    /// Whether a hart with these CSRs stands still at a pc where this is fetched, or raised by the
+    /// fetch: no interrupt can be taken, and the instruction leads back to it.
     ///
-    /// The clauses: it is so exactly then (`stands`, `moves`), and such a hart is dead (`dead`).
-    pub fn stands_still(&self, pc: u32, word: Option<u32>) -> bool
-        ensures stands { OnTrue result (TakesNone self.now × StandsStill pc word self.now) }
-        ensures moves { OnFalse result (TakesNone self.now → ¬ StandsStill pc word self.now) }
+    /// The instructions that do are `j .`, `beq x0, x0, .` and `c.j .`. The clauses: it is so
+    /// exactly then (`stands`, `moves`), and such a hart is dead (`dead`).
+    pub fn stands_still(&self, pc: u32, fetched: Result<Encoding, InstructionException>) -> bool
+        ensures stands { OnTrue result (TakesNone self.now × StandsStill pc fetched self.now) }
+        ensures moves { OnFalse result (TakesNone self.now → ¬ StandsStill pc fetched self.now) }
         ensures dead { OnTrue result ((s : MachineState) → s.csrs ≡ self.now → s.hart.pc ≡ pc
-            → next_word s.hart ≡ word → IsDead s) }
+            → fetched_at s ≡ fetched → IsDead s) }
     {
-        self.takes_none() && self.leads_back(pc, word)
+        if !self.takes_none() {
+            return false;
+        }
+        match fetched {
+            Ok(encoding) => leads_back(encoding),
+            Err(fault) => self.traps_again(pc, fault),
+        }
     }
 
     /// Where an interrupt goes, by its code.

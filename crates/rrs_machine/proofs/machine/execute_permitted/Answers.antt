@@ -9,12 +9,6 @@ returns-in-Mret-clause-outcome c = λ bytes writable.
     ap (λ (x : MachineState). ends x Retired) (c.return_from_trap.ensures.returned bytes writable)
     ∙ ap (λ r. permitted_outcome r c.args.instruction.now.fields c.args.word c.args.inputs.now s) (sym c.in-Mret.is)
 
-pub returns-in-FenceI-clause-outcome : goal.returns-in-FenceI-clause-outcome
-returns-in-FenceI-clause-outcome c = λ bytes writable.
-    let s = machine_of c.args.hart.now c.args.csrs.now bytes writable in
-    ap (λ (x : MachineState). ends x Retired) (c.pass-in-FenceI.ensures.passed bytes writable)
-    ∙ ap (λ r. permitted_outcome r c.args.instruction.now.fields c.args.word c.args.inputs.now s) (sym c.in-FenceI.is)
-
 pub returns-in-Wfi-clause-outcome : goal.returns-in-Wfi-clause-outcome
 returns-in-Wfi-clause-outcome c = λ bytes writable.
     let s = machine_of c.args.hart.now c.args.csrs.now bytes writable in

@@ -1,6 +1,6 @@
 use Rattle.std.proofs.Common.{[], refl, sym, ◌∙◌}
 use Rattle.rrs_machine.specs.MachineSteps.{machine_in, Interrupts, Proceeds, OfInterrupt, OfInstruction}
-use Rattle.rrs_machine.proofs.MachineLaws.{step_keeps, step_of_kit, step_minstret, step_mcycle}
+use Rattle.rrs_machine.proofs.MachineLaws.{step_keeps, step_of_hart, step_minstret, step_mcycle}
 use Rattle.rrs_machine.proofs.MachineStepping.{MachineStep-unique, AccessesOfMachineStep-unique}
 use Rattle.rrs_machine.proofs.machine.step_machine.Goals as goal
 
@@ -53,8 +53,8 @@ returns-in-None-clause-accesses g c =
 pub returns-in-Some-clause-traps : goal.returns-in-Some-clause-traps
 returns-in-Some-clause-traps g c = step_keeps _ _ _ _ (returns-in-Some-clause-step g c)
 
-pub returns-in-Some-clause-kit : goal.returns-in-Some-clause-kit
-returns-in-Some-clause-kit g c = step_of_kit _ _ _ _ (returns-in-Some-clause-step g c)
+pub returns-in-Some-clause-hart : goal.returns-in-Some-clause-hart
+returns-in-Some-clause-hart g c = step_of_hart _ _ _ _ (returns-in-Some-clause-step g c)
 
 pub returns-in-Some-clause-minstret : goal.returns-in-Some-clause-minstret
 returns-in-Some-clause-minstret g c = step_minstret _ _ _ _ (returns-in-Some-clause-step g c)
@@ -65,8 +65,8 @@ returns-in-Some-clause-mcycle g c = step_mcycle _ _ _ _ (returns-in-Some-clause-
 pub returns-in-None-clause-traps : goal.returns-in-None-clause-traps
 returns-in-None-clause-traps g c = step_keeps _ _ _ _ (returns-in-None-clause-step g c)
 
-pub returns-in-None-clause-kit : goal.returns-in-None-clause-kit
-returns-in-None-clause-kit g c = step_of_kit _ _ _ _ (returns-in-None-clause-step g c)
+pub returns-in-None-clause-hart : goal.returns-in-None-clause-hart
+returns-in-None-clause-hart g c = step_of_hart _ _ _ _ (returns-in-None-clause-step g c)
 
 pub returns-in-None-clause-minstret : goal.returns-in-None-clause-minstret
 returns-in-None-clause-minstret g c = step_minstret _ _ _ _ (returns-in-None-clause-step g c)

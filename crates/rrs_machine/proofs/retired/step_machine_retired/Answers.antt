@@ -3,9 +3,9 @@ use Rattle.std.proofs.Common.{rules, refl, subst, ap, ◌∙◌}
 use Rattle.rrs_lib.specs.Machine.{state_of}
 use Rattle.rrs_machine.specs.Csrs.{mode_number}
 use Rattle.rrs_machine.specs.MachineSteps.{machine}
-use Rattle.rrs_machine.specs.MachineRecords.{HasSourcesOf, HasCsrAccess}
+use Rattle.rrs_machine.specs.MachineRecords.{bits_if, HasSourcesOf, HasCsrAccess}
 use Rattle.rrs_machine.proofs.MachineStepping.{MachineStep-unique}
-use Rattle.rrs_machine.proofs.TracedSteps.{machine_last}
+use Rattle.rrs_machine.proofs.LastRegister.{machine_last}
 use Rattle.rrs_machine.proofs.retired.step_machine_retired.Goals as goal
 
 pub last_register-rd_addr-requires : goal.last_register-rd_addr-requires
@@ -26,10 +26,10 @@ returns-clause-retires g c =
     let made = c.see_step-seen.new in
     let t = state_of made.hart (memory.bytes made.mem) (memory.writable made.mem) in
     let told = c.sources_of-rs1_addr.ensures in
-    let sources : HasSourcesOf file.profile c.see_step-seen.result.insn c.sources_of-rs1_addr.result.0 c.sources_of-rs1_addr.result.1 = record {
+    let sources : HasSourcesOf file.profile.hart c.see_step-seen.result.encoding c.sources_of-rs1_addr.result.0 c.sources_of-rs1_addr.result.1 = record {
       of_row = told.of_row;
+      of_layer = told.of_layer;
       of_system = told.of_system;
-      of_atomic = told.of_atomic;
       of_illegal = told.of_illegal;
       of_none = told.of_none;
     } in
@@ -39,16 +39,16 @@ returns-clause-retires g c =
       mode_is = c.number-mode.ensures.number ∙ ap mode_number c.mode.ensures;
       cause_is = search rules;
       order_is = refl;
-      insn_is = seen.insn;
+      insn_is = c.bits_if.ensures ∙ ap bits_if seen.encoding;
       trap_is = search rules;
       pc_before = refl;
       pc_after = refl;
-      sources = subst (λ x. HasSourcesOf file.profile x c.sources_of-rs1_addr.result.0 c.sources_of-rs1_addr.result.1) seen.insn sources;
+      sources = subst (λ x. HasSourcesOf file.profile.hart x c.sources_of-rs1_addr.result.0 c.sources_of-rs1_addr.result.1) seen.encoding sources;
       first_value = c.register_value.ensures s refl;
       second_value = c.register_value-2.ensures s refl;
       written = c.last_register-rd_addr.ensures.number;
       written_value = c.register_value-3.ensures t refl;
       access = seen.access;
-      csr = subst (λ x. HasCsrAccess x answer i (machine s file) c.csr_of_step-csr.result) seen.insn
+      csr = subst (λ x. HasCsrAccess x answer i (machine s file) c.csr_of_step-csr.result) seen.encoding
           (c.csr_of_step-csr.ensures s refl);
     }

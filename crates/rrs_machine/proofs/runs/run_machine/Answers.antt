@@ -33,20 +33,20 @@ returns-clause-only g c = λ one steps waiting d t accesses other.
     run-unique g.S.Surroundings.tells one c.args.limit _ _ d _ _ t _ steps _ waiting _ accesses run.these other
 
 pub returns-in-Waiting-clause-kit : goal.returns-in-Waiting-clause-kit
-returns-in-Waiting-clause-kit g c = λ u off run even.
+returns-in-Waiting-clause-kit g c = λ u off words run even.
     let memory = g.M.Memory in
     let s = machine_in memory.bytes memory.writable c.args.executor.now c.args.csrs.now in
     let t = machine_in memory.bytes memory.writable c.step_machine.new.executor c.step_machine.new.csrs in
     let made = returns-in-Waiting-clause-run g c in
     kit_run g.S.Surroundings.tells c.args.limit c.args.surroundings.now c.inputs-inputs.new.self s t c.steps.steps true
-    made.accesses u made.these off run even
+    made.accesses u made.these off words run even
 
 pub returns-clause-kit : goal.returns-clause-kit
-returns-clause-kit g c = λ u off run even.
+returns-clause-kit g c = λ u off words run even.
     let memory = g.M.Memory in
     let s = machine_in memory.bytes memory.writable c.args.executor.now c.args.csrs.now in
     let t = machine_in memory.bytes memory.writable c.steps.executor c.steps.csrs in
     let at : c.steps.steps ≡ c.args.limit = omega (arith, c.steps.invariant.within, c.steps-test.false) in
     let made = c.steps.invariant.made in
     kit_run g.S.Surroundings.tells c.args.limit c.args.surroundings.now c.steps.surroundings s t c.steps.steps false
-    made.accesses u (at, made.these) off run even
+    made.accesses u (at, made.these) off words run even
