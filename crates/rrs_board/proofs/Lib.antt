@@ -10,3 +10,4 @@ pub mod BoardLegs
 pub mod RamHalts
 pub mod PaddedWords
 pub mod ImageEnds
+mod ReadsKeep

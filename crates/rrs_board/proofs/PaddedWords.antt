@@ -1,9 +1,8 @@
 -- The words of RAM as bytes: those that are there, and zeros for the others.
-use Rattle.std.proofs.Common.{◌≡◌, ◌≢◌, ℕ, zero, suc, ◌+◌, ◌-◌, ◌*◌, ◌/◌, ◌%◌, ◌^◌, ◌<◌, ◌≤◌, List, [], ◌∷◌, length, replicate, slice_index, slice_index_or, Bool, true, false, ◌&&◌, nat_lt, nat_le, if◌then◌else◌, Option, Some, None, vec_capacity, refl, sym, subst, ap, ◌∙◌, arith}
+use Rattle.std.proofs.Common.{◌≡◌, ◌≢◌, ℕ, zero, suc, ◌+◌, ◌*◌, ◌/◌, ◌%◌, ◌^◌, ◌<◌, ◌≤◌, List, [], ◌∷◌, length, replicate, slice_index, slice_index_or, Bool, true, false, ◌&&◌, nat_lt, if◌then◌else◌, Some, None, vec_capacity, refl, sym, subst, ap, ◌∙◌, arith}
 use Rattle.std.proofs.lemmas.Bool.Decides.{nat_tests}
 use Rattle.std.proofs.lemmas.List.{get_or_past}
 use Rattle.rrs_memory.specs.declared.MemAccessSize.{MemAccessSize}
-use Rattle.rrs_memory.specs.declared.memories.VecMemory.{VecMemory}
 use Rattle.rrs_memory.specs.Bytes.{width, little_endian, all_writable, store, Writes, IsLawful, EndsAtLastAddress}
 use Rattle.rrs_memory.specs.VecBytes.{lies_in_words, bytes_of_words, vec_bytes, vec_writable, vec_layout, VecWrites}
 use Rattle.rrs_memory.proofs.ByteLemmas.{little_endian-moved, little_endian-unmapped, all_writable-refused, store_inside, store_outside, store_by, write-allowed}

@@ -1,6 +1,6 @@
 -- A board, its steps and runs. A step of the hart is that of machine mode (rrs_machine) over the
 -- memory of the board. Then the devices answer to its access, and time goes on.
-use Rattle.std.specs.Prelude.{◌≡◌, ℕ, zero, suc, ◌+◌, ◌*◌, ◌^◌, ◌<◌, ◌≤◌, ◌&&◌, nat_le, nat_lt, Bool, true, false, List, length, replicate, slice_set, Option, Some, None}
+use Rattle.std.specs.Prelude.{◌≡◌, ℕ, zero, suc, ◌+◌, ◌*◌, ◌^◌, ◌<◌, ◌≤◌, ◌&&◌, nat_le, nat_lt, Bool, false, List, length, replicate, slice_set, Option, Some, None}
 use Rattle.rrs_lib.specs.Accesses.{MakesExactly}
 use Rattle.rrs_machine.specs.declared.machine.MachineAnswer.{MachineAnswer}
 use Rattle.rrs_machine.specs.Traps.{interrupt_due}
@@ -66,8 +66,9 @@ BoardRun limit old steps (Some event) new =
 
 -- The devices are heard of in none of so many steps, where these access no register of theirs:
 -- none has an access to answer to, no interrupt is due, the alarm does not come meanwhile, and time
--- does not start again from 0.
+-- does not start again from 0. The hart fetches words.
 pub record IsQuiet (steps : ℕ) (b : Board) : Type 0 where
+  pub words : b.csrs.profile.hart.compressed ≡ false
   pub answered : b.memory.devices.access ≡ None
   pub none_due : interrupt_due b.csrs (inputs_of b.memory.devices) ≡ None
   pub no_alarm : b.memory.devices.time < b.memory.devices.alarm

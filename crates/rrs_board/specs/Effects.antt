@@ -1,13 +1,14 @@
 -- What the devices do between two steps: they answer to the access that the step made, and time
 -- goes on. What each of them is, is in Uart, Clint and Finisher.
-use Rattle.std.specs.Prelude.{ℕ, ◌+◌, ◌-◌, ◌*◌, ◌/◌, ◌%◌, ◌^◌, ◌≡◌, ◌≢◌, ◌⊎◌, ◌≤◌, ◌&&◌, ◌||◌, nat_lt, not, Bool, false, if◌then◌else◌, Option, Some, None}
+use Rattle.std.specs.Prelude.{ℕ, ◌+◌, ◌-◌, ◌*◌, ◌/◌, ◌%◌, ◌^◌, ◌≡◌, ◌⊎◌, ◌≤◌, ◌&&◌, ◌||◌, nat_lt, not, Bool, false, if◌then◌else◌, Option, Some, None, Ok, Err}
 use Rattle.rrs_machine.specs.declared.csrs.CsrFile.{CsrFile}
 use Rattle.rrs_machine.specs.declared.csrs.Inputs.{Inputs}
 use Rattle.rrs_machine.specs.declared.machine.MachineAnswer.{MachineAnswer}
 use Rattle.rrs_machine.specs.declared.machine.MachineAnswer.TheVariants.{Waiting}
-use Rattle.rrs_lib.specs.Steps.{next_word}
+use Rattle.rrs_lib.specs.declared.instruction_executor.InstructionException.{InstructionException}
+use Rattle.rrs_hart.specs.declared.halves.Encoding.{Encoding}
 use Rattle.rrs_machine.specs.Traps.{base_of}
-use Rattle.rrs_machine.specs.MachineSteps.{MachineState}
+use Rattle.rrs_machine.specs.MachineSteps.{MachineState, fetched_at}
 use Rattle.rrs_machine.specs.Runs.{IsDead, TakesNone, StandsStill}
 use Rattle.rrs_board.specs.declared.devices.Devices.{Devices}
 use Rattle.rrs_board.specs.declared.devices.DeviceAccess.{DeviceAccess}
@@ -150,20 +151,21 @@ event_after answer file d = access_event d
 -- went to a handler that is not there.
 abbrev pub IsToldDead : Option BoardEvent → MachineState → Type 0
 IsToldDead (Some Spins) s =
-    IsDead s × (ram_start ≤ s.hart.pc) × ((w : ℕ) × (next_word s.hart ≡ Some w))
+    IsDead s × (ram_start ≤ s.hart.pc) × ((x : Encoding) × (fetched_at s ≡ Ok x))
 IsToldDead (Some LacksHandler) s =
-    IsDead s × (s.hart.pc ≡ base_of s.csrs) × (next_word s.hart ≡ None)
+    IsDead s × (s.hart.pc ≡ base_of s.csrs)
+    × ((e : InstructionException) × (fetched_at s ≡ Err e))
 IsToldDead event s = ⊥
 
 -- what the caller is told: what a device has for him, or else, it may be, that the hart is dead
 abbrev pub Tells : Option BoardEvent → Option BoardEvent → MachineState → Type 0
 Tells of_device event s = (event ≡ of_device) ⊎ ((of_device ≡ None) × IsToldDead event s)
 
--- A hart stands still, and no device has its word. Such a hart is dead.
+-- A hart stands still, and no device has its instruction. Such a hart is dead.
 pub record StandsInVain (s : MachineState) : Type 0 where
   pub takes_none : TakesNone s.csrs
-  pub stands : StandsStill s.hart.pc (next_word s.hart) s.csrs
-  pub in_ram : next_word s.hart ≢ None → ram_start ≤ s.hart.pc
+  pub stands : StandsStill s.hart.pc (fetched_at s) s.csrs
+  pub in_ram : (x : Encoding) → fetched_at s ≡ Ok x → ram_start ≤ s.hart.pc
 
 -- ---- what comes from outside
 

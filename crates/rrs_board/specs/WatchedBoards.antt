@@ -1,10 +1,9 @@
 -- Runs of a board of which each step is shown: to a watcher, with what the step did, and with the
 -- record of what it retired (rrs_machine).
-use Rattle.std.specs.Prelude.{◌≡◌, ℕ, suc, ◌+◌, ◌≤◌, ◌||◌, not, Bool, true, Option, Some, None}
+use Rattle.std.specs.Prelude.{◌≡◌, ℕ, suc, ◌+◌, ◌≤◌, ◌||◌, not, Bool, true, Some, None}
 use Rattle.rrs_machine.specs.declared.machine.MachineAnswer.{MachineAnswer}
 use Rattle.rrs_machine.specs.MachineRecords.{is_instruction, is_raised, MachineRetires}
 use Rattle.rrs_board.specs.declared.board.Board.{Board}
-use Rattle.rrs_board.specs.declared.effects.BoardEvent.{BoardEvent}
 use Rattle.rrs_board.specs.declared.runs.RecordedStep.{RecordedStep}
 use Rattle.rrs_board.specs.declared.runs.WatchedRuns.{WatchedRuns}
 use Rattle.rrs_board.specs.Boards.{machine_with, BoardStepped}

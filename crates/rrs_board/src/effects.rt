@@ -3,13 +3,14 @@
 ghost use Rattle.std.specs.Prelude.{◌≡◌, None, ◌+◌, ◌/◌, ◌%◌, ◌^◌, ◌<◌, ◌≤◌, ◌==◌};
 ghost use Rattle.rrs_board.specs.Clint.{can_wake};
 ghost use Rattle.rrs_board.specs.Finisher.{status_of, restarts};
-ghost use Rattle.rrs_lib.specs.Steps.{next_word};
-ghost use Rattle.rrs_machine.specs.MachineSteps.{MachineState};
+ghost use Rattle.rrs_machine.specs.MachineSteps.{MachineState, fetched_at};
 ghost use Rattle.rrs_board.specs.Effects.{inputs_of, shown_word, showing, transmits, finds_none, byte_at, uart_after, answered_access, answered, finisher_event, access_event, ticked, waited, settled, event_after, Tells, StandsInVain, arrived, waits_for_input};
 
 use crate::devices::{DeviceAccess, Devices, looked_at, wrote};
 use crate::memory::RAM_START;
 use crate::uart::Uart;
+use rrs_hart::Encoding;
+use rrs_lib::instruction_executor::InstructionException;
 use rrs_machine::{CsrFile, Inputs, MachineAnswer};
 
 /// What a device has for the caller.
@@ -73,21 +74,25 @@ fn finisher_event(word: u32) -> Option<BoardEvent>
     }
 }
 
-/// What the caller is told of a hart with these CSRs at a pc with this word, where no device has
-/// anything for him: that it is dead, or nothing.
-pub fn dead_event(csrs: &CsrFile, pc: u32, word: Option<u32>) -> Option<BoardEvent>
+/// What the caller is told of a hart with these CSRs at a pc where this is fetched, where no device
+/// has anything for him: that it is dead, or nothing.
+pub fn dead_event(
+    csrs: &CsrFile,
+    pc: u32,
+    fetched: Result<Encoding, InstructionException>,
+) -> Option<BoardEvent>
     ensures told { (s : MachineState) → s.csrs ≡ csrs.now → s.hart.pc ≡ pc
-        → next_word s.hart ≡ word → Tells None result s }
+        → fetched_at s ≡ fetched → Tells None result s }
     ensures alive { (s : MachineState) → s.csrs ≡ csrs.now → s.hart.pc ≡ pc
-        → next_word s.hart ≡ word → result ≡ None → ¬ StandsInVain s }
+        → fetched_at s ≡ fetched → result ≡ None → ¬ StandsInVain s }
 {
-    if !csrs.stands_still(pc, word) {
+    if !csrs.stands_still(pc, fetched) {
         return None;
     }
-    match word {
-        None => Some(BoardEvent::LacksHandler),
-        Some(_) if pc >= RAM_START => Some(BoardEvent::Spins),
-        Some(_) => None,
+    match fetched {
+        Err(_) => Some(BoardEvent::LacksHandler),
+        Ok(_) if pc >= RAM_START => Some(BoardEvent::Spins),
+        Ok(_) => None,
     }
 }
 

@@ -2,16 +2,16 @@
 //! watcher.
 
 ghost use Rattle.std.specs.Prelude.{◌≡◌, None, ◌+◌, ◌^◌, ◌<◌};
-ghost use Rattle.rrs_lib.specs.Steps.{next_word};
+ghost use Rattle.rrs_machine.specs.MachineSteps.{fetched_at};
 ghost use Rattle.rrs_board.specs.Effects.{Tells, StandsInVain};
 ghost use Rattle.rrs_board.specs.Boards.{machine_with};
 ghost use Rattle.rrs_board.specs.WatchedBoards.{takes_trap, IsRecorded, IsShown, watched_runs};
 
 use crate::board::{Board, BoardEnd, BoardStep};
 use crate::effects::{BoardEvent, dead_event};
-use rrs_lib::instruction_executor::InstructionExecutor;
+use rrs_hart::{Encoding, fetch_in};
+use rrs_lib::instruction_executor::{InstructionException, InstructionExecutor};
 use rrs_machine::{MachineAnswer, MachineRetired, step_machine_retired};
-use rrs_memory::{MemAccessSize, Memory};
 
 /// What runs a board at a terminal: it makes the steps between two events.
 pub trait BoardRunner {
@@ -76,19 +76,17 @@ pub trait BoardWatcher {
 }
 
 impl Board {
-    /// The word that is about to be executed, if there is one. No device hears of it.
-    fn next_word(&mut self) -> Option<u32>
-        ensures word { result ≡ next_word (machine_with self.old self.old.memory).hart }
+    /// The instruction that is about to be executed, or the exception of its fetch. No device hears
+    /// of it.
+    fn fetched(&mut self) -> Result<Encoding, InstructionException>
+        ensures fetched { result ≡ fetched_at (machine_with self.old self.old.memory) }
         ensures kept { self.new ≡ self.old }
     {
-        let pc = self.hart.pc;
-        if pc % 4 != 0 {
-            return None;
-        }
         let devices = self.memory.devices;
-        let word = self.memory.read_mem(pc, MemAccessSize::Word);
+        let profile = self.csrs.profile.hart;
+        let fetched = fetch_in(&mut self.memory, profile, self.hart.pc);
         self.memory.devices = devices;
-        word
+        fetched
     }
 
     /// What the caller is told after a step from this pc, where the devices have this event for
@@ -101,8 +99,8 @@ impl Board {
     {
         match event {
             None if self.hart.pc == pc => {
-                let word = self.next_word();
-                dead_event(&self.csrs, pc, word)
+                let fetched = self.fetched();
+                dead_event(&self.csrs, pc, fetched)
             }
             _ => event,
         }

@@ -6,6 +6,7 @@
 //! bytes, the highest byte first.
 
 use crate::memory::RAM_START;
+use rrs_words::HartProfile;
 use std::alloc::{AllocError, Global};
 
 /// How often `mtime` grows in a second, as the tree says.
@@ -27,6 +28,16 @@ const END: u32 = 9;
 const HART_INTERRUPTS: u32 = 1;
 
 const FINISHER: u32 = 2;
+
+/// The extensions of a hart with these layers, as the tree names them.
+fn isa_of(layers: HartProfile) -> &'static str {
+    match (layers.atomics, layers.compressed) {
+        (false, false) => "rv32im",
+        (false, true) => "rv32imc",
+        (true, false) => "rv32ima",
+        (true, true) => "rv32imac",
+    }
+}
 
 /// A tree that is written.
 #[derive(Drop)]
@@ -100,8 +111,8 @@ impl Tree {
         self.property(name, &value)
     }
 
-    /// The hart, whose interrupt controller the CLINT names.
-    fn harts(&mut self, alloc: Global) -> Result<(), AllocError> {
+    /// The hart, with these layers, whose interrupt controller the CLINT names.
+    fn harts(&mut self, alloc: Global, layers: HartProfile) -> Result<(), AllocError> {
         self.begin("cpus")?;
         self.numbers(alloc, "#address-cells", &[1])?;
         self.numbers(alloc, "#size-cells", &[0])?;
@@ -111,7 +122,7 @@ impl Tree {
         self.numbers(alloc, "reg", &[0])?;
         self.text(alloc, "status", "okay")?;
         self.text(alloc, "compatible", "riscv")?;
-        self.text(alloc, "riscv,isa", "rv32ima")?;
+        self.text(alloc, "riscv,isa", isa_of(layers))?;
         self.begin("interrupt-controller")?;
         self.numbers(alloc, "#interrupt-cells", &[1])?;
         self.property("interrupt-controller", b"")?;
@@ -184,14 +195,19 @@ impl Tree {
     }
 }
 
-/// The device tree of a board with so many bytes of RAM: its hart, its devices, where RAM is, and
-/// the arguments for the kernel, its command line. No clause says what is in it: that is tested,
+/// The device tree of a board whose hart has these layers, with so many bytes of RAM: its hart, its
+/// devices, where RAM is, and the arguments for the kernel, its command line. No clause says what is in it: that is tested,
 /// beside `dtc`, and by what boots with it.
 ///
 /// # Errors
 ///
 /// Out of memory.
-pub fn device_tree(alloc: Global, ram_bytes: u32, arguments: &str) -> Result<Vec<u8>, AllocError> {
+pub fn device_tree(
+    alloc: Global,
+    layers: HartProfile,
+    ram_bytes: u32,
+    arguments: &str,
+) -> Result<Vec<u8>, AllocError> {
     let mut tree = Tree {
         structure: Vec::new(alloc),
         names: Vec::new(alloc),
@@ -209,7 +225,7 @@ pub fn device_tree(alloc: Global, ram_bytes: u32, arguments: &str) -> Result<Vec
     tree.text(alloc, "device_type", "memory")?;
     tree.numbers(alloc, "reg", &[RAM_START, ram_bytes])?;
     tree.end()?;
-    tree.harts(alloc)?;
+    tree.harts(alloc, layers)?;
     tree.devices(alloc)?;
     tree.end()?;
     put_number(&mut tree.structure, END)?;

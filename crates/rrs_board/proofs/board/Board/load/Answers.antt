@@ -1,5 +1,5 @@
 -- The executable is loaded into zeros, which are the RAM of a board at reset.
-use Rattle.std.proofs.Common.{◌≡◌, ℕ, length, slice_index, replicate, ap, sym, subst, ◌∙◌, refl, rules}
+use Rattle.std.proofs.Common.{◌≡◌, length, slice_index, replicate, ap, sym, subst, ◌∙◌, refl, rules}
 use Rattle.std.proofs.lemmas.List.{length-replicate}
 use Rattle.rrs_memory.specs.declared.memories.VecMemory.{VecMemory}
 use Rattle.rrs_elf.specs.Headers.{e_entry}

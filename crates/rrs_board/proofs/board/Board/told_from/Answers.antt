@@ -1,4 +1,4 @@
--- The word is the one that is about to be executed, and the board stays.
+-- The instruction is the one that is about to be executed, and the board stays.
 use Rattle.std.proofs.Common.{sym, ap}
 use Rattle.rrs_board.specs.declared.board.Board.{Board}
 use Rattle.rrs_board.specs.Boards.{machine_with}
@@ -7,5 +7,5 @@ use Rattle.rrs_board.proofs.board.Board.told_from.Goals as goal
 pub returns-in-None-clause-alive : goal.returns-in-None-clause-alive
 returns-in-None-clause-alive c = λ none at vain.
     let b = c.args.self.now in
-    c.dead_event.ensures.alive (machine_with b b.memory) (sym (ap (λ (x : Board). x.csrs) c.next_word-word.ensures.kept)) at
-    (sym c.next_word-word.ensures.word) none vain
+    c.dead_event.ensures.alive (machine_with b b.memory) (sym (ap (λ (x : Board). x.csrs) c.fetched-fetched.ensures.kept)) at
+    (sym c.fetched-fetched.ensures.fetched) none vain

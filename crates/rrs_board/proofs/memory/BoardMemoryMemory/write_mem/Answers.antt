@@ -1,5 +1,5 @@
 -- A write is one of the devices, or one of RAM.
-use Rattle.std.proofs.Common.{◌≤◌, ◌<◌, ℕ, Bool, nat_lt, if◌then◌else◌, sym, ap, ◌∙◌, refl, arith, rules}
+use Rattle.std.proofs.Common.{◌≤◌, ◌<◌, ℕ, Bool, nat_lt, if◌then◌else◌, sym, ap, ◌∙◌, refl, arith}
 use Rattle.std.proofs.lemmas.Bool.{OnTrue_at, OnTrue_from, OnFalse_at, OnFalse_from}
 use Rattle.rrs_memory.specs.Bytes.{ByteMap, width}
 use Rattle.rrs_memory.specs.SliceBytes.{bytes_from, lies_from}

@@ -1,5 +1,5 @@
 -- The value is that of the words that are there, or that of zeros.
-use Rattle.std.proofs.Common.{◌≡◌, ◌<◌, ◌≤◌, ◌/◌, ℕ, Option, Some, None, length, sym, subst, ap, ◌∙◌, arith}
+use Rattle.std.proofs.Common.{◌≡◌, ◌<◌, ◌≤◌, ◌/◌, Some, length, sym, subst, ap, ◌∙◌, arith}
 use Rattle.rrs_memory.specs.declared.memories.VecMemory.{VecMemory}
 use Rattle.rrs_memory.specs.Bytes.{width, little_endian}
 use Rattle.rrs_memory.specs.VecBytes.{vec_bytes}

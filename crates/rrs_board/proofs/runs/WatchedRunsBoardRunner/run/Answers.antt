@@ -1,5 +1,5 @@
 -- One step more, and the last one.
-use Rattle.std.proofs.Common.{◌≡◌, suc, ◌+◌, true, refl, sym, subst, ◌∙◌, add-one, arith}
+use Rattle.std.proofs.Common.{◌≡◌, true, sym, subst, ◌∙◌, add-one, arith}
 use Rattle.rrs_board.specs.WatchedBoards.{QuietlyShown, NoStep, OneMore}
 use Rattle.rrs_board.proofs.runs.WatchedRunsBoardRunner.run.Goals as goal
 
