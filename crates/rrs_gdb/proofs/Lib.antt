@@ -2,7 +2,7 @@ pub mod BreakLemmas
 pub mod PacketLemmas
 pub mod ShownLemmas
 pub mod WatchLemmas
-pub mod CarryingLemmas
+pub mod HartLemmas
 pub mod SessionLemmas
 pub mod FieldLemmas
 pub mod AnswerLemmas

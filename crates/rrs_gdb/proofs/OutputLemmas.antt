@@ -1,12 +1,12 @@
 -- What is sent of output.
-use Rattle.std.proofs.Common.{◌≡◌, ℕ, zero, suc, ◌+◌, ◌-◌, ◌^◌, ◌<◌, ◌≤◌, Bool, List, [], ◌∷◌, ◌++◌, Option, None, Some, Ok, MatchOption, length, drop, sym, subst, ap, ◌∙◌, arith, append-nil, append_assoc}
+use Rattle.std.proofs.Common.{◌≡◌, ℕ, zero, suc, ◌+◌, ◌-◌, ◌^◌, ◌<◌, ◌≤◌, List, [], ◌∷◌, ◌++◌, Option, None, Some, MatchOption, length, drop, sym, subst, ap, ◌∙◌, arith, append-nil, append_assoc}
 use Rattle.std.proofs.lemmas.List.{drop_all}
 use Rattle.std.specs.Io.KnownBytes.{Appends}
 use Rattle.rrs_gdb.specs.declared.link.Link.{Link}
 use Rattle.rrs_lib.specs.Accesses.{Access}
 use Rattle.rrs_lib.specs.Machine.{State}
 use Rattle.rrs_linux.specs.Recording.{Recording, Records}
-use Rattle.rrs_history.specs.Calls.{IsServedStep}
+use Rattle.rrs_history.specs.Calls.{ServesCall}
 use Rattle.rrs_gdb.specs.declared.state.Stop.{Stop}
 use Rattle.rrs_gdb.specs.declared.state.Stop.TheVariants.{Signal, Entry}
 use Rattle.rrs_gdb.specs.Sessions.{Around, Asked, AtEntry, AtExit, IsAfterCall, PrintsCall, StopsBefore, stopped_at}
@@ -102,14 +102,13 @@ none_before asked a b number at (AtEntry caught entered same) =
     at_entry at number (ap (λ (x : Around). x.stop) same)
 none_before asked a b number at (AtExit exit stops told same) = at_signal at 5 (ap (λ (x : Around). x.stop) same)
 
-pub prints_call : {R W : Type 0} (contents : W → Option (List ℕ)) (made sent made' sent' : ℕ) (is_call : Bool)
+pub prints_call : {R W : Type 0} (contents : W → Option (List ℕ)) (made sent made' sent' : ℕ)
     (end : Option ℕ) (e after : Recording) (m t : State) (accesses : List Access) (old new : Link R W) → made' ≡ made → sent' ≡ sent
-    → IsServedStep Records is_call e m (Ok end) after t accesses
+    → ServesCall Records e m end m.pc after t accesses
     → (made' + length after.output.items + length after.errors.items < 2 ^ 64
     → Prints contents old new (drop (sent' - made') (after.output.items ++ after.errors.items)))
     → PrintsCall contents made sent e m t old new
-prints_call contents made sent made' sent' is_call end e after m t accesses old new same same' served prints = record {
-  is_call = is_call;
+prints_call contents made sent made' sent' end e after m t accesses old new same same' served prints = record {
   end = end;
   after = after;
   accesses = accesses;

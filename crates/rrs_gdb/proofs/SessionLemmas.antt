@@ -10,19 +10,22 @@ use Rattle.rrs_lib.specs.Machine.{State, with_pc}
 use Rattle.rrs_linux.specs.Recording.{Recording, Records}
 use Rattle.rrs_history.specs.declared.history.History.{History}
 use Rattle.rrs_history.specs.Histories.{changes, past, room}
-use Rattle.rrs_history.specs.Calls.{IsServedStep, RemembersCall}
+use Rattle.rrs_history.specs.Calls.{RemembersCall, ServesCall}
+use Rattle.rrs_words.specs.declared.csrs.HartProfile.{HartProfile}
+use Rattle.rrs_lib.specs.Steps.{StepAnswer}
+use Rattle.rrs_hart.specs.Harts.{hart_with}
 use Rattle.rrs_gdb.specs.declared.breaks.Watch.{Watch}
 use Rattle.rrs_gdb.specs.declared.forward.ForwardReason.{ForwardReason}
 use Rattle.rrs_gdb.specs.declared.forward.ForwardReason.TheVariants.{AtStop, Touches, Limit, Fault}
 use Rattle.rrs_gdb.specs.declared.session.Going.{Going}
 use Rattle.rrs_gdb.specs.declared.session.Going.TheVariants.{Step, Proceed, Killed}
 use Rattle.rrs_gdb.specs.Shown.{stop_text}
-use Rattle.rrs_gdb.specs.Sessions.{letter, IsError, PlacesKept, Asked, asked_by, Around, forgotten, stopped_at, is_call, ends_by_fault, call_number, CarriedOn, FaultStops, StopsAt, AtCall, AtFault, Passes, ByCall, OutputTaken, PassesBefore, StopsBehind, CallServed, CallMade, CallStops, Behind, Most, one_step, up_to, still, Ran, GoesOn, Runs, GoesBy, GoesOnOrStays, GoesOnFrom, GoesOnUnless, KilledUnless, HasAction, HasLetter, Resumes, Acts, first_action}
+use Rattle.rrs_gdb.specs.Sessions.{letter, IsError, PlacesKept, Asked, asked_by, Around, forgotten, stopped_at, is_call, signal_of, ends_by_fault, call_number, SteppedOn, Raises, FaultStops, Left, StopsAt, AtCall, AtHartsCall, AtFault, Passes, ByCall, ByHartsCall, OutputTaken, PassesBefore, StopsBehind, CallServed, CallMade, CallStops, Behind, Most, one_step, up_to, still, Ran, GoesOn, Runs, GoesBy, GoesOnOrStays, GoesOnFrom, GoesOnUnless, KilledUnless, HasAction, HasLetter, Resumes, Acts, first_action}
 use Rattle.std.proofs.lemmas.List.Elements.{All-nil}
 use Rattle.rrs_gdb.specs.declared.back.BackEnd.{BackEnd}
 use Rattle.rrs_gdb.specs.declared.back.BackEnd.TheVariants as Back
 use Rattle.rrs_gdb.specs.Breaks.{GoesForward, GoesBack, IsPassed, KeepsSteps}
-use Rattle.rrs_gdb.specs.Carrying.{Carried, CarriedTouchesNone, CarriedTouchesOne, MadeAgain}
+use Rattle.rrs_gdb.specs.Harts.{may_differ, HartTouchesNone, HartTouchesOne, HartStepped}
 use Rattle.rrs_gdb.specs.declared.state.SessionState.{SessionState}
 use Rattle.rrs_gdb.specs.declared.state.Stop.{Stop}
 use Rattle.rrs_gdb.specs.declared.state.Stop.TheVariants.{Signal, Touched}
@@ -80,6 +83,7 @@ asked_kept old new kept = λ i. record {
   all_calls = (kept.caught_kept i).are_all;
   calls = (kept.caught_kept i).numbers.items;
   stops_at_exit = (kept.settings_kept i).stops_at_exit;
+  profile = kept.profile_kept i;
 }
 
 pub still_none : (steps : ℕ) (told : Bool) → steps ≡ 0 → still steps told ≡ told
@@ -154,18 +158,17 @@ to_fault stops stops' watches watches' limit s steps reason fault t same same' i
     (same_places stops stops' watches watches' limit s steps reason t same same' run)
 
 -- a call is served
-pub call_served : (a b : Around) (m t : State) (end : Option ℕ) (is_call : Bool) (accesses : List Access)
-    (after : Recording) (history : History) → IsServedStep Records is_call a.environment m (Ok end) after t accesses
-    → RemembersCall is_call a.history m history t (length accesses) → OutputTaken after b.environment
+pub call_served : (a b : Around) (m t : State) (end : Option ℕ) (accesses : List Access)
+    (after : Recording) (history : History) → ServesCall Records a.environment m end m.pc after t accesses
+    → RemembersCall true a.history m history t (length accesses) → OutputTaken after b.environment
     → b.reserved ≡ a.reserved → b.history ≡ history → CallServed a m end b t
-call_served a b m t end is_call accesses after history served remembers taken reserved same = record {
+call_served a b m t end accesses after history served remembers taken reserved same = record {
   after = after;
-  is_call = is_call;
   accesses = accesses;
   served = served;
   output_taken = taken;
   reserved_kept = reserved;
-  remembered = subst (λ (h : History). RemembersCall is_call a.history m h t (length accesses)) (sym same) remembers;
+  remembered = subst (λ (h : History). RemembersCall true a.history m h t (length accesses)) (sym same) remembers;
 }
 
 -- the same breakpoints, and what was told before the call
@@ -201,16 +204,16 @@ call_made asked a b m t end number (Some at) none passes served served' same beh
     Behind passes (subst (λ (o : Option ℕ). CallServed a m o (stopped_at b at) t) none (served at))
     (subst (λ (n : ℕ). StopsBehind a.entered asked.stops n t.pc at) same behind)
 
--- the instruction of a fault is carried out
-pub carried_on : (asked : Asked) (fault : InstructionException) (a mid b : Around) (m t : State) (at : Stop)
-    → CarriedTouchesNone asked.watches a.reserved m
-    → Carried fault a.reserved a.history m (Ok tt) mid.reserved mid.history t
+-- a step of the hart is made
+pub stepped_on : (asked : Asked) (a mid b : Around) (m t : State) (at : Stop)
+    → HartTouchesNone asked.watches asked.profile (hart_with m a.reserved)
+    → HartStepped asked.profile a.reserved a.history m (Ok tt) mid.reserved mid.history t
     → mid.environment ≡ a.environment
     → b ≡ record mid { entered = still 1 mid.entered; told_exit = still 1 mid.told_exit }
-    → CarriedOn asked fault a m (stopped_at b at) t
-carried_on asked fault a mid b m t at none carried same is = record {
+    → SteppedOn asked a m (stopped_at b at) t
+stepped_on asked a mid b m t at none stepped same is = record {
   touches_none = none;
-  carried = subst (λ (x : Around). Carried fault a.reserved a.history m (Ok tt) x.reserved x.history t) (sym is) carried;
+  stepped = subst (λ (x : Around). HartStepped asked.profile a.reserved a.history m (Ok tt) x.reserved x.history t) (sym is) stepped;
   environment_kept = ap (λ (x : Around). x.environment) is ∙ same;
   not_entered = ap (λ (x : Around). x.entered) is;
   not_told = ap (λ (x : Around). x.told_exit) is;
@@ -227,6 +230,22 @@ passes_call (Ok None) asked fault a b m t pc is made = ByCall pc is made
 passes_call (Ok (Some at)) asked fault a b m t pc is made = AtCall pc is made
 passes_call (Err f) asked fault a b m t pc is made = tt
 
+-- and so does one that the hart's step raises alone
+pub passes_harts_call : {F : Type 0} (answer : Result (Option Stop) F) (asked asked' : Asked) (fault left : InstructionException)
+    (a c b : Around) (m u t : State) (pc : ℕ) → asked' ≡ asked → may_differ fault ≡ true → left ≡ EnvironmentCall pc
+    → Raises asked left a m c u
+    → IfOk answer (λ (stop : Option Stop). MatchOption stop (CallMade asked' c u b t)
+    (λ (at : Stop). CallStops asked' c u (stopped_at b at) t))
+    → IfOk answer (λ (stop : Option Stop). MatchOption stop (Passes asked fault a m b t)
+    (λ (at : Stop). StopsAt asked fault a m (stopped_at b at) t))
+passes_harts_call (Ok None) asked asked' fault left a c b m u t pc same differs is raises made =
+    ByHartsCall pc c u differs (subst (λ (e : InstructionException). Raises asked e a m c u) is raises)
+    (subst (λ (x : Asked). CallMade x c u b t) same made)
+passes_harts_call (Ok (Some at)) asked asked' fault left a c b m u t pc same differs is raises made =
+    AtHartsCall pc c u differs (subst (λ (e : InstructionException). Raises asked e a m c u) is raises)
+    (subst (λ (x : Asked). CallStops x c u (stopped_at b at) t) same made)
+passes_harts_call (Err f) asked asked' fault left a c b m u t pc same differs is raises made = tt
+
 -- and so does another exception
 pub passes_fault : (stop : Option Stop) (asked : Asked) (fault : InstructionException)
     (a b : Around) (m t : State) → is_call fault ≡ false
@@ -234,6 +253,19 @@ pub passes_fault : (stop : Option Stop) (asked : Asked) (fault : InstructionExce
     → MatchOption stop (Passes asked fault a m b t) (λ (at : Stop). StopsAt asked fault a m (stopped_at b at) t)
 passes_fault None asked fault a b m t other holds = holds
 passes_fault (Some at) asked fault a b m t other holds = AtFault other holds
+
+-- an exception of the hart's step, at which the program stops
+pub left_so : (asked : Asked) (fault left : InstructionException) (a b : Around) (m t : State) (at : Stop)
+    → is_call fault ≡ false → may_differ fault ≡ true → is_call left ≡ false → Raises asked left a m b t → at ≡ Signal (signal_of left)
+    → StopsAt asked fault a m (stopped_at b at) t
+left_so asked fault left a b m t at other differs none raises is =
+    AtFault other (Left left differs none (record {
+      touches_none = raises.touches_none;
+      stepped = raises.stepped;
+      environment_kept = raises.environment_kept;
+      entered_kept = raises.entered_kept;
+      told_kept = raises.told_kept;
+    }) is)
 
 -- the same of what was asked for before
 pub passes_same : (stop : Option Stop) (asked asked' : Asked) (fault : InstructionException)
@@ -482,9 +514,9 @@ acts (Err f) action actions going rest ended asked limit a b s t old new same ha
 -- ---- a program that goes back
 
 -- nothing is left of a limit
-pub nothing_back : (stops : List ℕ) (watches : List Watch) (limit : ℕ) (e : Recording) (s : State) (before : List State)
-    → limit ≡ 0 → GoesOnBack (Signal 5) stops watches e s before limit 0 e s before
-nothing_back stops watches limit e s before none =
+pub nothing_back : (stops : List ℕ) (watches : List Watch) (p : HartProfile) (limit : ℕ) (e : Recording) (s : State) (before : List State)
+    → limit ≡ 0 → GoesOnBack (Signal 5) stops watches p e s before limit 0 e s before
+nothing_back stops watches p limit e s before none =
     RunsBack limit 0 e s before Back.Limit ([], refl, All-nil (IsPassed stops watches), sym none, refl, sym none)
     (λ same. absurd (cc)) refl refl
 
@@ -508,62 +540,62 @@ back_to_call stops stops' watches watches' limit s before after t steps end same
 
 -- How far the program has gone back from the first of two places to the second, with what is left of
 -- a limit and of the steps that are counted: what follows from the second follows from the first.
-pub record BackSoFar (stops : List ℕ) (watches : List Watch)
+pub record BackSoFar (stops : List ℕ) (watches : List Watch) (p : HartProfile)
     (limit : ℕ) (e : Recording) (s : State) (before : List State) (steps : ℕ)
     (left : ℕ) (d : Recording) (u : State) (between : List State) (steps' : ℕ) : Type 0 where
   pub gone : ℕ
   pub counted : steps' ≡ steps - gone
   pub goes_back : (at : Stop) (e' : Recording) (t : State) (after : List State) (more : ℕ)
-      → GoesOnBack at stops watches e' t after left more d u between
-      → GoesOnBack at stops watches e' t after limit (gone + more) e s before
+      → GoesOnBack at stops watches p e' t after left more d u between
+      → GoesOnBack at stops watches p e' t after limit (gone + more) e s before
 
-pub none_gone : (stops : List ℕ) (watches : List Watch) (limit : ℕ) (e : Recording) (s : State) (before : List State)
-    (steps : ℕ) → BackSoFar stops watches limit e s before steps limit e s before steps
-none_gone stops watches limit e s before steps = record {
+pub none_gone : (stops : List ℕ) (watches : List Watch) (p : HartProfile) (limit : ℕ) (e : Recording) (s : State) (before : List State)
+    (steps : ℕ) → BackSoFar stops watches p limit e s before steps limit e s before steps
+none_gone stops watches p limit e s before steps = record {
   gone = 0;
   counted = omega arith;
-  goes_back = λ at e' t after more goes. subst (λ (n : ℕ). GoesOnBack at stops watches e' t after limit n e s before)
+  goes_back = λ at e' t after more goes. subst (λ (n : ℕ). GoesOnBack at stops watches p e' t after limit n e s before)
       (omega arith) goes;
 }
 
 -- one run more, over a call
-pub call_gone : (stops : List ℕ) (watches : List Watch) (limit : ℕ) (e : Recording) (s : State) (before : List State)
+pub call_gone : (stops : List ℕ) (watches : List Watch) (p : HartProfile) (limit : ℕ) (e : Recording) (s : State) (before : List State)
     (steps left : ℕ) (d : Recording) (u : State) (between : List State) (steps' gone : ℕ) (d' : Recording) (u' : State)
-    (between' : List State) → BackSoFar stops watches limit e s before steps left d u between steps'
+    (between' : List State) → BackSoFar stops watches p limit e s before steps left d u between steps'
     → GoesBack stops watches left u between between' u' gone Back.Call → CallTakenBack d d'
-    → NoneTouchedBehind watches u' → ¬ Contains stops u'.pc
-    → BackSoFar stops watches limit e s before steps (left - 1) d' u' between' (steps' - gone)
-call_gone stops watches limit e s before steps left d u between steps' gone d' u' between' so_far back taken untouched none = record {
+    → NoneTouchedBehind watches p u' → ¬ Contains stops u'.pc
+    → BackSoFar stops watches p limit e s before steps (left - 1) d' u' between' (steps' - gone)
+call_gone stops watches p limit e s before steps left d u between steps' gone d' u' between' so_far back taken untouched none = record {
   gone = so_far.gone + gone;
   counted = omega (arith, so_far.counted);
-  goes_back = λ at e' t after more goes. subst (λ (n : ℕ). GoesOnBack at stops watches e' t after limit n e s before)
+  goes_back = λ at e' t after more goes. subst (λ (n : ℕ). GoesOnBack at stops watches p e' t after limit n e s before)
       (omega arith) (so_far.goes_back at e' t after (gone + more) (CallsBack left gone more d u between d' u' between' back taken untouched none goes));
 }
 
 -- the last run, and how many steps there were in all
-pub all_gone : (stops : List ℕ) (watches : List Watch) (limit : ℕ) (e : Recording) (s : State) (before : List State)
+pub all_gone : (stops : List ℕ) (watches : List Watch) (p : HartProfile) (limit : ℕ) (e : Recording) (s : State) (before : List State)
     (steps left : ℕ) (d : Recording) (u : State) (between : List State) (steps' more last : ℕ) (e' : Recording) (t : State)
-    (after : List State) (at : Stop) → BackSoFar stops watches limit e s before steps left d u between steps'
-    → GoesOnBack at stops watches e' t after left more d u between → last ≡ steps' - more
-    → (gone : ℕ) × (last ≡ steps - gone) × GoesOnBack at stops watches e' t after limit gone e s before
-all_gone stops watches limit e s before steps left d u between steps' more last e' t after at so_far goes counted =
+    (after : List State) (at : Stop) → BackSoFar stops watches p limit e s before steps left d u between steps'
+    → GoesOnBack at stops watches p e' t after left more d u between → last ≡ steps' - more
+    → (gone : ℕ) × (last ≡ steps - gone) × GoesOnBack at stops watches p e' t after limit gone e s before
+all_gone stops watches p limit e s before steps left d u between steps' more last e' t after at so_far goes counted =
     (so_far.gone + more, omega (arith, so_far.counted, counted), so_far.goes_back at e' t after more goes)
 
 -- the last run, over an instruction that is made again
-pub touch_gone : (stops : List ℕ) (watches : List Watch) (limit : ℕ) (e : Recording) (s : State) (before : List State)
+pub touch_gone : (stops : List ℕ) (watches : List Watch) (p : HartProfile) (limit : ℕ) (e : Recording) (s : State) (before : List State)
     (steps left : ℕ) (d : Recording) (u : State) (between : List State) (steps' gone last : ℕ) (e' : Recording) (v t : State)
-    (watch : Watch) (reserved reserved' : Option ℕ) (old new : History)
-    → BackSoFar stops watches limit e s before steps left d u between steps'
+    (watch : Watch) (reserved reserved' : Option ℕ) (old new : History) (answer : StepAnswer)
+    → BackSoFar stops watches p limit e s before steps left d u between steps'
     → GoesBack stops watches left u between (past (changes old) v) v gone Back.Call → CallTakenBack d e'
-    → CarriedTouchesOne watches reserved v watch → MadeAgain reserved old v reserved' new t → last ≡ steps' - (gone - 1)
+    → HartTouchesOne watches p (hart_with v reserved) watch → HartStepped p reserved old v answer reserved' new t → last ≡ steps' - (gone - 1)
     → (more : ℕ) × (last ≡ steps - more)
-    × GoesOnBack (Touched watch) stops watches e' t (past (changes new) t) limit more e s before
-touch_gone stops watches limit e s before steps left d u between steps' gone last e' v t watch reserved reserved' old new so_far back taken touched again counted =
+    × GoesOnBack (Touched watch) stops watches p e' t (past (changes new) t) limit more e s before
+touch_gone stops watches p limit e s before steps left d u between steps' gone last e' v t watch reserved reserved' old new answer so_far back taken touched again counted =
     let k = length back.passed in
     let one : gone ≡ suc k = back.counted in
     let less : last ≡ steps' - k = omega (arith, counted, one) in
-    all_gone stops watches limit e s before steps left d u between steps' k last e' t (past (changes new) t) (Touched watch) so_far
-    (TouchesBack left k d u between v (past (changes old) v) watch reserved reserved' old new
+    all_gone stops watches p limit e s before steps left d u between steps' k last e' t (past (changes new) t) (Touched watch) so_far
+    (TouchesBack left k d u between v (past (changes old) v) watch reserved reserved' old new answer
     (subst (λ (n : ℕ). GoesBack stops watches left u between (past (changes old) v) v n Back.Call) one back)
     taken touched refl refl again refl) less
 

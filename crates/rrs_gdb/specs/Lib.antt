@@ -10,6 +10,6 @@ pub use Rattle.hex.specs.Hex
 pub mod Packets
 pub mod Shown
 pub mod Breaks
-pub mod Carrying
+pub mod Harts
 pub mod Sessions
 pub mod Answers

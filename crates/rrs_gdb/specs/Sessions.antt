@@ -10,9 +10,12 @@ use Rattle.rrs_lib.specs.declared.instruction_executor.InstructionException.{Ins
 use Rattle.rrs_lib.specs.declared.instruction_executor.InstructionException.TheVariants.{IllegalInstruction, Breakpoint, AlignmentFault, FetchError, LoadAccessFault, StoreAccessFault, EnvironmentCall}
 use Rattle.rrs_lib.specs.Accesses.{Access}
 use Rattle.rrs_lib.specs.Machine.{State, reg, with_pc}
+use Rattle.rrs_lib.specs.Steps.{StepAnswer}
 use Rattle.rrs_linux.specs.Recording.{Recording, Records}
-use Rattle.rrs_history.specs.Calls.{IsServedStep, RemembersCall}
-use Rattle.rrs_gdb.specs.Carrying.{may_carry, CarriedTouchesNone, CarriedTouchesOne, Carried, MadeAgain}
+use Rattle.rrs_history.specs.Calls.{RemembersCall, ServesCall}
+use Rattle.rrs_words.specs.declared.csrs.HartProfile.{HartProfile}
+use Rattle.rrs_hart.specs.Harts.{hart_with}
+use Rattle.rrs_gdb.specs.Harts.{may_differ, HartTouchesNone, HartTouchesOne, HartStepped}
 use Rattle.rrs_history.specs.declared.change.Change.{Change}
 use Rattle.rrs_gdb.specs.declared.breaks.Break.{Break}
 use Rattle.rrs_gdb.specs.declared.breaks.Break.TheVariants as Place
@@ -117,12 +120,14 @@ pub record SettingsKept (old new : SessionState) : Type 0 where
   pub history_kept : new.history ≡ old.history
   pub reserved_kept : new.reservation ≡ old.reservation
 
--- the breakpoints, the watchpoints, the settings, and which calls are caught are as they were
+-- the breakpoints, the watchpoints, the settings, which calls are caught, and the profile of the
+-- hart are as they were
 pub record PlacesKept (old new : SessionState) : Type 0 where
   pub stops_kept : new.breaks.stops.items ≡ old.breaks.stops.items
   pub watches_kept : new.breaks.watches.items ≡ old.breaks.watches.items
   pub settings_kept : new.settings ≡ old.settings
   pub caught_kept : new.caught ≡ old.caught
+  pub profile_kept : new.profile ≡ old.profile
 
 -- the breakpoints, the watchpoints, the settings, the history and what is reserved are as they were
 pub record SessionKept (old new : SessionState) : Type 0 where
@@ -412,13 +417,14 @@ pub record Manages (payload : List ℕ) (s t : SessionState) (old new : List ℕ
 -- ---- where the program stops
 
 -- what gdb asked for: breakpoints, watchpoints, calls that are caught, all or those of these
--- numbers, and whether the program stops before it exits
+-- numbers, and whether the program stops before it exits; and the profile of the hart
 pub record Asked : Type 0 where
   pub stops : List ℕ
   pub watches : List Watch
   pub all_calls : Bool
   pub calls : List ℕ
   pub stops_at_exit : Bool
+  pub profile : HartProfile
 
 abbrev pub asked_by : SessionState → Asked
 asked_by session = record {
@@ -427,6 +433,7 @@ asked_by session = record {
   all_calls = session.caught.are_all;
   calls = session.caught.numbers.items;
   stops_at_exit = session.settings.stops_at_exit;
+  profile = session.profile;
 }
 
 -- What is around the machine: the environment of the program, the address that it has reserved,
@@ -543,12 +550,11 @@ pub data StopsBehind (entered : Bool) (stops : List ℕ) (number pc : ℕ) (at :
 pub record CallServed (a : Around) (m : State) (end : Option ℕ) (b : Around) (t : State)
     : Type 0 where
   pub after : Recording
-  pub is_call : Bool
   pub accesses : List Access
-  pub served : IsServedStep Records is_call a.environment m (Ok end) after t accesses
+  pub served : ServesCall Records a.environment m end m.pc after t accesses
   pub output_taken : OutputTaken after b.environment
   pub reserved_kept : b.reserved ≡ a.reserved
-  pub remembered : RemembersCall is_call a.history m b.history t (length accesses)
+  pub remembered : RemembersCall true a.history m b.history t (length accesses)
 
 -- a stop after a call that was served
 abbrev pub IsAfterCall : Stop → Type 0
@@ -560,11 +566,10 @@ IsAfterCall _ = ⊥
 -- back, fewer bytes were made than sent, and those that gdb knows are not sent again.
 pub record PrintsCall {R W : Type 0} (contents : W → Option (List ℕ)) (made sent : ℕ)
     (e : Recording) (m t : State) (old new : Link R W) : Type 0 where
-  pub is_call : Bool
   pub end : Option ℕ
   pub after : Recording
   pub accesses : List Access
-  pub served : IsServedStep Records is_call e m (Ok end) after t accesses
+  pub served : ServesCall Records e m end m.pc after t accesses
   pub prints : made + length after.output.items + length after.errors.items < 2 ^ 64
       → Prints contents old new (drop (sent - made) (after.output.items ++ after.errors.items))
 
@@ -589,63 +594,71 @@ pub data CallStops (asked : Asked) (a : Around) (m : State) (b : Around) (t : St
   -- the call is served, and the program goes on
   Behind : PassesBefore asked a (call_number m) → CallServed a m None b t
       → StopsBehind a.entered asked.stops (call_number m) t.pc b.stop → CallStops asked a m b t
-  -- an exception that is no call
-  Faults : (is_call : Bool) (fault : InstructionException) (accesses : List Access)
-      → IsServedStep Records is_call a.environment m (Err fault) b.environment t accesses
-      → b.stop ≡ Signal (signal_of fault) → CallStops asked a m b t
 
--- ---- instructions that are carried out
+-- ---- steps of the hart in whose place the kit's raises an exception
 
--- A step faulted at the instruction at the pc. It touches no watchpoint, and is carried out from m.
--- That is a step: nothing is told of the call at the pc then.
-pub record CarriedOn (asked : Asked) (fault : InstructionException) (a : Around) (m : State)
-    (b : Around) (t : State) : Type 0 where
-  pub touches_none : CarriedTouchesNone asked.watches a.reserved m
-  pub carried : Carried fault a.reserved a.history m (Ok tt) b.reserved b.history t
+-- From m a step of the hart is made. It touches no watchpoint, and nothing is told of the call at
+-- the pc then.
+pub record SteppedOn (asked : Asked) (a : Around) (m : State) (b : Around) (t : State) : Type 0 where
+  pub touches_none : HartTouchesNone asked.watches asked.profile (hart_with m a.reserved)
+  pub stepped : HartStepped asked.profile a.reserved a.history m (Ok tt) b.reserved b.history t
   pub environment_kept : b.environment ≡ a.environment
   pub not_entered : b.entered ≡ false
   pub not_told : b.told_exit ≡ false
 
--- the program stops at an exception that is no call, or behind the instruction that raised it
+-- The step of the hart from m raises this exception. It touches no watchpoint.
+pub record Raises (asked : Asked) (left : InstructionException) (a : Around) (m : State)
+    (b : Around) (t : State) : Type 0 where
+  pub touches_none : HartTouchesNone asked.watches asked.profile (hart_with m a.reserved)
+  pub stepped : HartStepped asked.profile a.reserved a.history m (Err left) b.reserved b.history t
+  pub environment_kept : b.environment ≡ a.environment
+  pub entered_kept : b.entered ≡ a.entered
+  pub told_kept : b.told_exit ≡ a.told_exit
+
+-- the program stops at an exception of the kit's step that is no call, or behind its instruction
 pub data FaultStops (asked : Asked) (fault : InstructionException) (a : Around) (m : State)
     (b : Around) (t : State) : Type 0 where
-  -- an exception after which nothing is carried out
-  Stands : may_carry fault ≡ false → b ≡ stopped_at a (Signal (signal_of fault)) → t ≡ m
+  -- an exception of the hart too
+  Stands : may_differ fault ≡ false → b ≡ stopped_at a (Signal (signal_of fault)) → t ≡ m
       → FaultStops asked fault a m b t
-  -- the instruction is to touch a watchpoint
-  ToTouch : (watch : Watch) → may_carry fault ≡ true
-      → CarriedTouchesOne asked.watches a.reserved m watch
+  -- the step of the hart is to touch a watchpoint
+  ToTouch : (watch : Watch) → may_differ fault ≡ true
+      → HartTouchesOne asked.watches asked.profile (hart_with m a.reserved) watch
       → b ≡ stopped_at a (Touched watch) → t ≡ m
       → FaultStops asked fault a m b t
-  -- it is not carried out: this exception is left
-  Left : (left : InstructionException) → may_carry fault ≡ true
-      → CarriedTouchesNone asked.watches a.reserved m
-      → Carried fault a.reserved a.history m (Err left) b.reserved b.history t
-      → b.environment ≡ a.environment → b.entered ≡ a.entered → b.told_exit ≡ a.told_exit
-      → b.stop ≡ Signal (signal_of left)
+  -- the step of the hart raises this exception, which is no call
+  Left : (left : InstructionException) → may_differ fault ≡ true → is_call left ≡ false
+      → Raises asked left a m b t → b.stop ≡ Signal (signal_of left)
       → FaultStops asked fault a m b t
-  -- it is carried out, and leads to a breakpoint
-  ToStop : may_carry fault ≡ true → CarriedOn asked fault a m b t
+  -- the step of the hart leads to a breakpoint
+  ToStop : may_differ fault ≡ true → SteppedOn asked a m b t
       → Contains asked.stops t.pc → b.stop ≡ Signal 5
       → FaultStops asked fault a m b t
 
 -- ---- the program goes on
 
--- The program stops at an exception: at a call as that says, and else at the instruction.
+-- The program stops at an exception: at a call as that says, also where it is one of the hart's step
+-- alone, and else at the instruction.
 pub data StopsAt (asked : Asked) (fault : InstructionException) (a : Around) (m : State)
     (b : Around) (t : State) : Type 0 where
   AtCall : (pc : ℕ) → fault ≡ EnvironmentCall pc → CallStops asked a m b t
       → StopsAt asked fault a m b t
+  AtHartsCall : (pc : ℕ) (c : Around) (u : State) → may_differ fault ≡ true
+      → Raises asked (EnvironmentCall pc) a m c u → CallStops asked c u b t
+      → StopsAt asked fault a m b t
   AtFault : is_call fault ≡ false → FaultStops asked fault a m b t
       → StopsAt asked fault a m b t
 
--- The program goes on behind an exception: the call is served, or the instruction is carried out,
--- and leads to no breakpoint.
+-- The program goes on behind an exception: the call is served, or a step of the hart is made, and
+-- leads to no breakpoint.
 pub data Passes (asked : Asked) (fault : InstructionException) (a : Around) (m : State)
     (b : Around) (t : State) : Type 0 where
   ByCall : (pc : ℕ) → fault ≡ EnvironmentCall pc → CallMade asked a m b t
       → Passes asked fault a m b t
-  ByCarrying : may_carry fault ≡ true → CarriedOn asked fault a m b t → ¬ Contains asked.stops t.pc
+  ByHartsCall : (pc : ℕ) (c : Around) (u : State) → may_differ fault ≡ true
+      → Raises asked (EnvironmentCall pc) a m c u → CallMade asked c u b t
+      → Passes asked fault a m b t
+  ByStep : may_differ fault ≡ true → SteppedOn asked a m b t → ¬ Contains asked.stops t.pc
       → Passes asked fault a m b t
 
 -- the most steps and calls that a program may make, and where it stops after these
@@ -674,8 +687,7 @@ pub record Ran (steps : ℕ) (a : Around) (s : State) (b : Around) (t : State) :
   pub told_kept : b.told_exit ≡ still steps a.told_exit
 
 -- From a and s the program goes on to b and t, within a limit of steps and calls: by runs up to
--- stops and watchpoints, and between two of them by a call that is served or an instruction that is
--- carried out. It stops at no call but by what gdb asked for.
+-- stops and watchpoints, and between two of them by a call that is served or a step of the hart. It stops at no call but by what gdb asked for.
 pub data GoesOn (asked : Asked) (at_limit : Stop) (b : Around) (t : State)
     : ℕ → Around → State → Type 0 where
   -- a run, to no exception
@@ -757,7 +769,7 @@ pub record Acts (actions : List ℕ) (ended : Bool) (asked : Asked) (limit : ℕ
 
 -- ---- the program goes back
 
--- What is noted before a call, and before an instruction that is carried out: of the environment
+-- What is noted before a call, and before a step of the hart that is kept: of the environment
 -- how much input was left, the break, and the state of the pseudo-random numbers; how much output
 -- had been made; and the address that was reserved.
 abbrev pub mark_of : Recording → ℕ → Option ℕ → CallMark
@@ -801,42 +813,43 @@ stop_back Back.Call = Signal 5
 stop_back Back.AtBegin = AtBegin
 stop_back Back.Limit = Signal 5
 
--- the call that was taken back, or the instruction that was carried out, touches no watchpoint
-abbrev pub NoneTouchedBehind : List Watch → State → Type 0
-NoneTouchedBehind watches u = (reserved : Option ℕ) × CarriedTouchesNone watches reserved u
+-- the call, or the step of the hart, that was taken back touches no watchpoint
+abbrev pub NoneTouchedBehind : List Watch → HartProfile → State → Type 0
+NoneTouchedBehind watches p u =
+    (reserved : Option ℕ) × HartTouchesNone watches p (hart_with u reserved)
 
 -- From e and s, with the states before it, the program goes back to e' and t, with those before
 -- that, within a limit, by so many steps in all: by runs back up to stops and watchpoints, and over
--- the calls between them, and the instructions that were carried out. It stops there as said.
-pub data GoesOnBack (at : Stop) (stops : List ℕ) (watches : List Watch) (e' : Recording) (t : State)
-    (after : List State) : ℕ → ℕ → Recording → State → List State → Type 0 where
+-- the calls and the steps of the hart between them. It stops there as said.
+pub data GoesOnBack (at : Stop) (stops : List ℕ) (watches : List Watch) (p : HartProfile)
+    (e' : Recording) (t : State) (after : List State) : ℕ → ℕ → Recording → State → List State → Type 0 where
   -- a run back, to no call
   RunsBack : (limit steps : ℕ) (e : Recording) (s : State) (before : List State) (end : BackEnd)
       → GoesBack stops watches limit s before after t steps end → end ≢ Back.Call → e' ≡ e
       → at ≡ stop_back end
-      → GoesOnBack at stops watches e' t after limit steps e s before
+      → GoesOnBack at stops watches p e' t after limit steps e s before
   -- a run back over a call, to a stop
   StopsBack : (limit steps : ℕ) (e : Recording) (s : State) (before : List State)
       → GoesBack stops watches limit s before after t steps Back.Call → CallTakenBack e e'
-      → NoneTouchedBehind watches t → Contains stops t.pc → at ≡ Signal 5
-      → GoesOnBack at stops watches e' t after limit steps e s before
-  -- a run back over an instruction that was carried out, and that touches a watchpoint; it is made
-  -- again, and is not counted
+      → NoneTouchedBehind watches p t → Contains stops t.pc → at ≡ Signal 5
+      → GoesOnBack at stops watches p e' t after limit steps e s before
+  -- a run back over a step of the hart that touches a watchpoint; it is made again, and is not
+  -- counted
   TouchesBack : (limit steps : ℕ) (e : Recording) (s : State) (before : List State)
       (u : State) (between : List State) (watch : Watch)
-      (reserved reserved' : Option ℕ) (old new : History)
+      (reserved reserved' : Option ℕ) (old new : History) (answer : StepAnswer)
       → GoesBack stops watches limit s before between u (suc steps) Back.Call → CallTakenBack e e'
-      → CarriedTouchesOne watches reserved u watch
+      → HartTouchesOne watches p (hart_with u reserved) watch
       → between ≡ past (changes old) u → after ≡ past (changes new) t
-      → MadeAgain reserved old u reserved' new t → at ≡ Touched watch
-      → GoesOnBack at stops watches e' t after limit steps e s before
+      → HartStepped p reserved old u answer reserved' new t → at ≡ Touched watch
+      → GoesOnBack at stops watches p e' t after limit steps e s before
   -- a run back over a call, and what follows within what is left of the limit
   CallsBack : (limit steps more : ℕ) (e : Recording) (s : State) (before : List State)
       (d : Recording) (u : State) (between : List State)
       → GoesBack stops watches limit s before between u steps Back.Call → CallTakenBack e d
-      → NoneTouchedBehind watches u → ¬ Contains stops u.pc
-      → GoesOnBack at stops watches e' t after (limit - 1) more d u between
-      → GoesOnBack at stops watches e' t after limit (steps + more) e s before
+      → NoneTouchedBehind watches p u → ¬ Contains stops u.pc
+      → GoesOnBack at stops watches p e' t after (limit - 1) more d u between
+      → GoesOnBack at stops watches p e' t after limit (steps + more) e s before
 
 -- A session goes back so: from where its history leads back to, with its breakpoints. The steps
 -- that were taken back are no longer counted.
@@ -844,7 +857,7 @@ abbrev pub SessionGoesBack : ℕ → Stop → SessionState → Recording → Sta
     → State → Type 0
 SessionGoesBack limit at old e s new e' t =
     (gone : ℕ) × (new.steps ≡ old.steps - gone)
-    × GoesOnBack at old.breaks.stops.items old.breaks.watches.items e' t
+    × GoesOnBack at old.breaks.stops.items old.breaks.watches.items old.profile e' t
     (past (changes new.history) t) limit gone e s (past (changes old.history) s)
 
 -- ---- of the code

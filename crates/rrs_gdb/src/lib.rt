@@ -12,10 +12,10 @@
 
 mod back;
 mod breaks;
-mod carrying;
 mod contents;
 mod forward;
 mod framing;
+mod harts;
 mod link;
 mod numbers;
 mod queries;

@@ -1,23 +1,25 @@
 //! The program goes on, forward and back.
 
-ghost use Rattle.std.specs.Prelude.{◌≡◌, ◌≢◌, ◌+◌, ◌-◌, ◌%◌, ◌^◌, ◌<◌, ◌++◌, drop, length, slice_get, false, Contains, IfNone, IfOk, MatchOption, OnOk};
+ghost use Rattle.std.specs.Prelude.{◌≡◌, ◌≢◌, ◌+◌, ◌-◌, ◌%◌, ◌^◌, ◌<◌, ◌++◌, drop, length, slice_get, false, true, Contains, IfErr, IfNone, IfOk, MatchOption, OnOk};
 ghost use Rattle.std.specs.Bool.{OnTrue, OnFalse};
 ghost use Rattle.rrs_gdb.specs.declared.back.BackEnd.{BackEnd};
 ghost use Rattle.rrs_lib.specs.Executor.{state_in};
 ghost use Rattle.rrs_linux.specs.Recording.{Recording};
-ghost use Rattle.rrs_gdb.specs.Carrying.{CarriedTouchesNone, CarriedTouchesOne, MadeAgain};
+ghost use Rattle.rrs_hart.specs.Harts.{hart_with};
+ghost use Rattle.rrs_lib.specs.Steps.{StepAnswer};
+ghost use Rattle.rrs_gdb.specs.Harts.{may_differ, HartTouchesNone, HartTouchesOne, HartStepped};
 ghost use Rattle.rrs_gdb.specs.Shown.{Prints};
-ghost use Rattle.rrs_gdb.specs.Sessions.{CallMade, CallStops, CallTakenBack, FaultStops, GivenBack, GoesOn, IsAfterCall, NotesCall, OutputTaken, Passes, PassesBefore, PlacesKept, PrintsCall, SessionGoesBack, StopsAt, StopsBefore, StopsBehind, around, asked_by, is_call, mark_of, signal_of, still, stop_back, stop_of, stopped_at};
+ghost use Rattle.rrs_gdb.specs.Sessions.{CallMade, CallStops, CallTakenBack, FaultStops, GivenBack, Raises, GoesOn, IsAfterCall, NotesCall, OutputTaken, Passes, PassesBefore, PlacesKept, PrintsCall, SessionGoesBack, StopsAt, StopsBefore, StopsBehind, around, asked_by, is_call, mark_of, signal_of, still, stop_back, stop_of, stopped_at};
 
 use crate::back::{BackEnd, go_back};
 use crate::breaks::Watch;
-use crate::carrying::{carry, make_again, may_carry, watch_carried};
 use crate::forward::{ForwardEnd, ForwardReason, go_forward};
+use crate::harts::{may_differ, watch_hart};
 use crate::link::{Link, LinkError};
 use crate::runner::StopRunner;
 use crate::state::{CallMark, SessionState, Stop};
 use rrs_fast::is_stop;
-use rrs_history::step_served;
+use rrs_history::{serve_recorded, step_hart_recorded};
 use rrs_lib::Memory;
 use rrs_lib::instruction_executor::{InstructionException, InstructionExecutor};
 use rrs_linux::OutputRecorder;
@@ -194,10 +196,7 @@ fn make_call<M: Memory, R: Read, W: Write>(
         return Ok(Some(stop));
     }
     let mark = mark_of(environment, state.made, state.reservation);
-    let end = match step_served(executor, environment, &mut state.history) {
-        Ok(end) => end,
-        Err(fault) => return Ok(Some(Stop::Signal(signal_of(&fault)))),
-    };
+    let end = serve_recorded(executor, environment, &mut state.history);
     let _oldest = state.calls.push_front(mark);
     send_made(state, environment, link)?;
     state.steps = state.steps.saturating_add(1);
@@ -253,49 +252,56 @@ fn is_call(fault: &InstructionException) -> bool
     }
 }
 
-/// Carries out the instruction at the pc, at which a step faulted. The answer is the stop that
-/// comes of it: at the fault, before an access to a watchpoint, or behind the instruction.
-fn carry_on<M: Memory>(
+/// Makes a step of the hart, where the kit's step raised an exception. The answer is the stop that
+/// comes of it, before an access to a watchpoint, at the exception or behind the instruction; or the
+/// exception of the hart's step.
+fn step_on<M: Memory>(
     state: &mut SessionState<'_>,
     executor: &mut InstructionExecutor<M>,
     environment: &OutputRecorder<'_>,
     fault: InstructionException,
-) -> Option<Stop>
+) -> Result<Option<Stop>, InstructionException>
     ensures places { PlacesKept state.old state.new }
-    ensures carried { is_call fault ≡ false → MatchOption result
+    ensures made { IfOk result (λ stop. MatchOption stop
         (Passes (asked_by state.old) fault
         (around state.old environment.now) (state_in M.bytes M.writable executor.old)
         (around state.new environment.now) (state_in M.bytes M.writable executor.new))
         (λ at. FaultStops (asked_by state.old) fault
         (around state.old environment.now) (state_in M.bytes M.writable executor.old)
         (stopped_at (around state.new environment.now) at)
-        (state_in M.bytes M.writable executor.new)) }
-    ensures counted { state.old.steps < 2 ^ 64 - 1 → IfNone result
-        (state.new.steps ≡ state.old.steps + 1) }
-    ensures noted { IfNone result (NotesCall environment.now state.old state.new) }
+        (state_in M.bytes M.writable executor.new))) }
+    ensures raised { IfErr result (λ left. (may_differ fault ≡ true)
+        × Raises (asked_by state.old) left
+        (around state.old environment.now) (state_in M.bytes M.writable executor.old)
+        (around state.new environment.now) (state_in M.bytes M.writable executor.new)) }
+    ensures counted { state.old.steps < 2 ^ 64 - 1 → IfOk result (λ stop. IfNone stop
+        (state.new.steps ≡ state.old.steps + 1)) }
+    ensures noted { IfOk result (λ stop. IfNone stop
+        (NotesCall environment.now state.old state.new)) }
 {
-    if !may_carry(&fault) {
-        return Some(Stop::Signal(signal_of(&fault)));
+    if !may_differ(&fault) {
+        return Ok(Some(Stop::Signal(signal_of(&fault))));
     }
-    let watches = &state.breaks.watches;
-    if let Some(watch) = watch_carried(executor, watches, state.reservation) {
-        return Some(Stop::Touched(watch));
+    let (profile, reserved) = (state.profile, state.reservation);
+    if let Some(watch) = watch_hart(executor, &state.breaks.watches, profile, reserved) {
+        return Ok(Some(Stop::Touched(watch)));
     }
-    let mark = mark_of(environment, state.made, state.reservation);
+    let mark = mark_of(environment, state.made, reserved);
     let (history, reservation) = (&mut state.history, &mut state.reservation);
-    if let Err(left) = carry(executor, history, reservation, fault) {
-        return Some(Stop::Signal(signal_of(&left)));
+    if let Err(left) = step_hart_recorded(executor, reservation, profile, history) {
+        return Err(left);
     }
     let _forgotten = state.calls.push_front(mark);
     count_steps(state, 1);
     if is_stop(&state.breaks.stops, executor.hart_state.pc) {
-        return Some(Stop::Signal(TRAPPED));
+        return Ok(Some(Stop::Signal(TRAPPED)));
     }
-    None
+    Ok(None)
 }
 
-/// Goes on behind an exception: a call is served, and another instruction carried out. The answer
-/// is the stop that comes of it.
+/// Goes on behind an exception of the kit's step: a call is served, also where it is one of the
+/// hart's step alone, and otherwise a step of the hart is made. The answer is the stop that comes of
+/// it.
 fn pass<M: Memory, R: Read, W: Write>(
     state: &mut SessionState<'_>,
     executor: &mut InstructionExecutor<M>,
@@ -317,7 +323,14 @@ fn pass<M: Memory, R: Read, W: Write>(
     if is_call(&fault) {
         return make_call(state, executor, environment, link);
     }
-    Ok(carry_on(state, executor, environment, fault))
+    let left = match step_on(state, executor, environment, fault) {
+        Ok(stop) => return Ok(stop),
+        Err(left) => left,
+    };
+    if is_call(&left) {
+        return make_call(state, executor, environment, link);
+    }
+    Ok(Some(Stop::Signal(signal_of(&left))))
 }
 
 /// Goes forward, to a stop or for `limit` steps, each call that is served being one.
@@ -402,8 +415,8 @@ fn stop_back(end: &BackEnd) -> Stop
     }
 }
 
-/// The watchpoint that the instruction touches which was taken back, where it was carried out after
-/// a fault. It is made again then.
+/// The watchpoint that the instruction touches which was taken back, by a step of the hart. That is
+/// made again then.
 fn touch_again<M: Memory>(
     state: &mut SessionState<'_>,
     executor: &mut InstructionExecutor<M>,
@@ -414,20 +427,21 @@ fn touch_again<M: Memory>(
     ensures touched { MatchOption result
         ((state_in M.bytes M.writable executor.new ≡ state_in M.bytes M.writable executor.old)
         × (state.new.history ≡ state.old.history)
-        × CarriedTouchesNone state.old.breaks.watches.items state.old.reservation
-        (state_in M.bytes M.writable executor.old))
-        (λ watch. CarriedTouchesOne state.old.breaks.watches.items state.old.reservation
-        (state_in M.bytes M.writable executor.old) watch
-        × MadeAgain state.old.reservation state.old.history
-        (state_in M.bytes M.writable executor.old) state.new.reservation state.new.history
-        (state_in M.bytes M.writable executor.new)) }
+        × HartTouchesNone state.old.breaks.watches.items state.old.profile
+        (hart_with (state_in M.bytes M.writable executor.old) state.old.reservation))
+        (λ watch. HartTouchesOne state.old.breaks.watches.items state.old.profile
+        (hart_with (state_in M.bytes M.writable executor.old) state.old.reservation) watch
+        × ((answer : StepAnswer) × HartStepped state.old.profile
+        state.old.reservation state.old.history (state_in M.bytes M.writable executor.old) answer
+        state.new.reservation state.new.history (state_in M.bytes M.writable executor.new))) }
 {
-    let watches = &state.breaks.watches;
-    let Some(watch) = watch_carried(executor, watches, state.reservation) else {
+    let (profile, reserved) = (state.profile, state.reservation);
+    let Some(watch) = watch_hart(executor, &state.breaks.watches, profile, reserved) else {
         return None;
     };
-    let mark = mark_of(environment, state.made, state.reservation);
-    if make_again(executor, &mut state.history, &mut state.reservation) {
+    let mark = mark_of(environment, state.made, reserved);
+    let (history, reservation) = (&mut state.history, &mut state.reservation);
+    if step_hart_recorded(executor, reservation, profile, history).is_ok() {
         let _forgotten = state.calls.push_front(mark);
     }
     Some(watch)

@@ -3,6 +3,7 @@
 ghost use Rattle.std.specs.Prelude.{◌≡◌, ◌^◌, ◌++◌, ◌∷◌, [], take, true, false, None, IfOk, OnErr, OnOk};
 ghost use Rattle.std.specs.Bool.{OnTrue, OnFalse};
 ghost use Rattle.std.specs.Fmt.{digits};
+ghost use Rattle.rrs_exec.specs.Processes.{process_profile};
 ghost use Rattle.rrs_history.specs.Histories.{changes, room as room_of};
 ghost use Rattle.rrs_linux.specs.Recording.{Recording};
 ghost use Rattle.rrs_gdb.specs.Packets.{digits_of};
@@ -13,7 +14,9 @@ ghost use Rattle.rrs_gdb.specs.Sessions.{BreaksKept, IsCaught, IsError, PlacesKe
 use crate::breaks::{Breaks, Watch};
 use crate::framing::push_hex;
 use circular_buffer::HeapCircularBuffer;
+use rrs_exec::process_profile;
 use rrs_fast::is_stop;
+use rrs_hart::HartProfile;
 use rrs_history::{History, newest};
 use std::alloc::{AllocError, Global};
 
@@ -63,7 +66,7 @@ pub(crate) enum Stop {
     Killed(u8),
 }
 
-/// What there was before a call, or before an instruction that was carried out.
+/// What there was before a call, or before a step of the hart that is kept as one.
 #[derive(Clone, Copy)]
 pub(crate) struct CallMark {
     /// How many bytes of the input were left.
@@ -94,9 +97,11 @@ pub struct SessionState<'a> {
     pub breaks: Breaks,
     /// The steps that can be taken back.
     pub history: History,
-    /// What there was before each call that is kept, and before each instruction that was carried
-    /// out, the latest first.
+    /// What there was before each call that is kept, and before each step of the hart that is kept
+    /// as one, the latest first.
     pub(crate) calls: HeapCircularBuffer<CallMark>,
+    /// The profile of the program's hart.
+    pub profile: HartProfile,
     /// The address that the program has reserved.
     pub(crate) reservation: Option<u32>,
     /// What `monitor` sets.
@@ -131,8 +136,8 @@ pub struct SessionState<'a> {
 
 impl<'a> SessionState<'a> {
     /// What a session begins with, for a program at a path and with an input: it made no step, as
-    /// one that was trapped before its first, with no address reserved (`begins`), its history is
-    /// empty and has the room that is set (`emptied`, `room`), and gdb asked for nothing (`asked`).
+    /// one that was trapped before its first, with no address reserved, on the usual hart of a
+    /// process (`begins`), its history is empty and has the room that is set (`emptied`, `room`), and gdb asked for nothing (`asked`).
     ///
     /// # Errors
     ///
@@ -146,7 +151,7 @@ impl<'a> SessionState<'a> {
         ensures settings { IfOk result (λ state. state.settings ≡ settings) }
         ensures begins { IfOk result (λ state. (state.steps ≡ 0) × (state.stop ≡ Stop.Signal 5)
             × (state.has_entered ≡ false) × (state.has_told_exit ≡ false)
-            × (state.reservation ≡ None)) }
+            × (state.reservation ≡ None) × (state.profile ≡ process_profile false)) }
         ensures emptied { IfOk result (λ state. changes state.history ≡ []) }
         ensures room { IfOk result (λ state. room_of state.history ≡ settings.history) }
         ensures asked { IfOk result (λ state. (state.breaks.stops.items ≡ [])
@@ -163,6 +168,7 @@ impl<'a> SessionState<'a> {
             breaks: Breaks::new(alloc),
             history: History::new(alloc, settings.history)?,
             calls: HeapCircularBuffer::with_capacity(alloc, settings.history)?,
+            profile: process_profile(false),
             reservation: None,
             settings,
             caught: Caught {

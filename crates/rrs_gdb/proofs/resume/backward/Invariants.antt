@@ -12,7 +12,7 @@ invariant-legs g l =
     let watches = l.fn.state.breaks.watches.items in
     record {
       places : PlacesKept l.fn.state l.state;
-      so_far : BackSoFar stops watches l.fn.limit l.fn.environment (state l.fn.executor)
+      so_far : BackSoFar stops watches l.fn.state.profile l.fn.limit l.fn.environment (state l.fn.executor)
           (past (changes l.fn.state.history) (state l.fn.executor)) l.fn.state.steps
           l.left l.environment (state l.executor)
           (past (changes l.state.history) (state l.executor)) l.state.steps;

@@ -28,6 +28,7 @@ returns-in-Some-clause-goes_on g c =
       watches_kept = told.watches_kept ∙ i.places.watches_kept;
       settings_kept = told.settings_kept ∙ i.places.settings_kept;
       caught_kept = told.caught_kept ∙ i.places.caught_kept;
+      profile_kept = told.profile_kept ∙ i.places.profile_kept;
     } in
     let counted = around c.count_steps.new.state c.legs.environment in
     let m = state c.go_forward-steps.new.executor in
@@ -54,6 +55,7 @@ legs-preserved g c =
       watches_kept = told.watches_kept ∙ i.places.watches_kept;
       settings_kept = told.settings_kept ∙ i.places.settings_kept;
       caught_kept = told.caught_kept ∙ i.places.caught_kept;
+      profile_kept = told.profile_kept ∙ i.places.profile_kept;
     } in
     let counted = around c.count_steps.new.state c.legs.environment in
     let m = state c.go_forward-steps.new.executor in
@@ -66,6 +68,7 @@ legs-preserved g c =
         watches_kept = made.watches_kept ∙ places.watches_kept;
         settings_kept = made.settings_kept ∙ places.settings_kept;
         caught_kept = made.caught_kept ∙ places.caught_kept;
+        profile_kept = made.profile_kept ∙ places.profile_kept;
       };
       goes_on = λ b t later. i.goes_on b t (GoesBehind _ _ _ end.steps fault counted m after _
           (to_fault _ _ _ _ _ _ _ end.reason fault _ i.places.stops_kept i.places.watches_kept c.in-Fault.is

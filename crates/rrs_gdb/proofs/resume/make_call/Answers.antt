@@ -2,8 +2,8 @@
 use Rattle.std.proofs.Common.{◌%◌, ℕ, ◌∙◌, Option, refl, subst, ap}
 use Rattle.rrs_lib.specs.Executor.{state_in}
 use Rattle.rrs_gdb.specs.declared.state.Stop.{Stop}
-use Rattle.rrs_gdb.specs.declared.state.Stop.TheVariants.{Signal, Exited}
-use Rattle.rrs_gdb.specs.Sessions.{Around, Before, CallServed, Ends, Faults, PassesBefore, StopsBefore, around, asked_by, stopped_at}
+use Rattle.rrs_gdb.specs.declared.state.Stop.TheVariants.{Exited}
+use Rattle.rrs_gdb.specs.Sessions.{Around, Before, CallServed, Ends, PassesBefore, StopsBefore, around, asked_by, stopped_at}
 use Rattle.rrs_gdb.proofs.OutputLemmas.{none_before, printed_by_all, prints_call}
 use Rattle.rrs_gdb.proofs.SessionLemmas.{behind_call, call_made, call_served}
 use Rattle.rrs_gdb.proofs.resume.make_call.Goals as goal
@@ -17,30 +17,26 @@ returns-in-Some-clause-made g c =
     Before (subst (λ (n : ℕ). StopsBefore (asked_by c.args.state.now) a n b)
     (c.read_register-number.ensures (g.M.Memory.bytes mem) (g.M.Memory.writable mem)) (c.in-Some.ensures.stop e)) refl
 
-pub returns-in-Err-clause-made : goal.returns-in-Err-clause-made
-returns-in-Err-clause-made g c =
-    Faults _ c.in-Err.fault _ c.in-Err.ensures.served.these.1 (ap Signal c.signal_of.ensures)
-
 pub returns-in-Some-end-clause-made : goal.returns-in-Some-end-clause-made
 returns-in-Some-end-clause-made g c =
     let e = c.args.environment.now in
     let mem = c.args.executor.now.mem.now in
     let a = around c.args.state.now e in
     let s = state_in g.M.Memory.bytes g.M.Memory.writable c.args.executor.now in
-    let t = state_in g.M.Memory.bytes g.M.Memory.writable c.step_served.new.executor in
+    let t = state_in g.M.Memory.bytes g.M.Memory.writable c.serve_recorded-end.new.executor in
     let number = c.read_register-number.ensures (g.M.Memory.bytes mem) (g.M.Memory.writable mem) in
     let passed = c.in_default.ensures.stop e in
-    let made = c.in-Ok.ensures.served.these in
+    let made = c.serve_recorded-end.ensures.served.these in
     let sent = c.send_made.new in
     let status = c.in-Some-end.status in
     let b = stopped_at (around sent.state sent.environment) (Exited (status % 256)) in
     let same = ap (λ (x : Around). x.history) (c.send_made.ensures.around sent.environment) in
     let reserved = ap (λ (x : Around). x.reserved) (c.send_made.ensures.around sent.environment) in
-    let served = call_served (around c.stop_before.new.state e) b s t c.in-Ok.end made.0 _ _ _ made.1 made.2
+    let served = call_served (around c.stop_before.new.state e) b s t c.serve_recorded-end.result _ _ _ made.0 made.1
     c.in_ok-send_made.ensures.taken reserved same in
     Ends status (subst (λ (n : ℕ). PassesBefore (asked_by c.args.state.now) a n) number passed.1)
     (subst (λ (o : Option ℕ). CallServed a s o b t) c.in-Some-end.is
-    (subst (λ (x : Around). CallServed x s c.in-Ok.end b t) passed.0 served)) refl
+    (subst (λ (x : Around). CallServed x s c.serve_recorded-end.result b t) passed.0 served)) refl
 
 pub returns-in-None-clause-made : goal.returns-in-None-clause-made
 returns-in-None-clause-made g c =
@@ -48,25 +44,25 @@ returns-in-None-clause-made g c =
     let mem = c.args.executor.now.mem.now in
     let a = around c.args.state.now e in
     let s = state_in g.M.Memory.bytes g.M.Memory.writable c.args.executor.now in
-    let t = state_in g.M.Memory.bytes g.M.Memory.writable c.step_served.new.executor in
+    let t = state_in g.M.Memory.bytes g.M.Memory.writable c.serve_recorded-end.new.executor in
     let number = c.read_register-number.ensures (g.M.Memory.bytes mem) (g.M.Memory.writable mem) in
     let passed = c.in_default.ensures.stop e in
-    let made = c.in-Ok.ensures.served.these in
+    let made = c.serve_recorded-end.ensures.served.these in
     let sent = c.send_made.new in
     let told = c.send_made.ensures.around sent.environment in
     let last = c.stop_behind.ensures.around sent.environment in
     let b = around c.stop_behind.new.state sent.environment in
     let same = ap (λ (x : Around). x.history) last ∙ ap (λ (x : Around). x.history) told in
     let reserved = ap (λ (x : Around). x.reserved) last ∙ ap (λ (x : Around). x.reserved) told in
-    let served = call_served (around c.stop_before.new.state e) b s t c.in-Ok.end made.0 _ _ _ made.1 made.2
+    let served = call_served (around c.stop_before.new.state e) b s t c.serve_recorded-end.result _ _ _ made.0 made.1
     c.in_ok-send_made.ensures.taken reserved same in
-    let stopped : (at : Stop) → CallServed (around c.stop_before.new.state e) s c.in-Ok.end (stopped_at b at) t = λ at.
-    call_served (around c.stop_before.new.state e) (stopped_at b at) s t c.in-Ok.end made.0 _ _ _ made.1 made.2
+    let stopped : (at : Stop) → CallServed (around c.stop_before.new.state e) s c.serve_recorded-end.result (stopped_at b at) t = λ at.
+    call_served (around c.stop_before.new.state e) (stopped_at b at) s t c.serve_recorded-end.result _ _ _ made.0 made.1
     c.in_ok-send_made.ensures.taken reserved same in
-    call_made (asked_by c.args.state.now) a b s t c.in-Ok.end c.read_register-number.result c.stop_behind.result c.in-None.is
+    call_made (asked_by c.args.state.now) a b s t c.serve_recorded-end.result c.read_register-number.result c.stop_behind.result c.in-None.is
     (subst (λ (n : ℕ). PassesBefore (asked_by c.args.state.now) a n) number passed.1)
-    (λ at. subst (λ (x : Around). CallServed x s c.in-Ok.end (stopped_at b at) t) passed.0 (stopped at))
-    (subst (λ (x : Around). CallServed x s c.in-Ok.end b t) passed.0 served) number
+    (λ at. subst (λ (x : Around). CallServed x s c.serve_recorded-end.result (stopped_at b at) t) passed.0 (stopped at))
+    (subst (λ (x : Around). CallServed x s c.serve_recorded-end.result b t) passed.0 served) number
     (behind_call c.stop_behind.result _ _ _ _ _ _
     (ap (λ (x : Around). x.entered) told ∙ ap (λ (x : Around). x.entered) passed.0)
     (c.send_made.ensures.places.stops_kept ∙ c.stop_before.ensures.places.stops_kept) c.stop_behind.ensures.stop)
@@ -80,15 +76,15 @@ returns-in-Some-clause-printed g c = λ after.
 
 pub returns-in-Some-end-clause-printed : goal.returns-in-Some-end-clause-printed
 returns-in-Some-end-clause-printed g c = λ _.
-    let made = c.in-Ok.ensures.served.these in
-    prints_call g.W.Write.contents _ _ _ _ made.0 c.in-Ok.end _ _ _ _ _ _ _ c.stop_before.ensures.made
-    c.stop_before.ensures.sent made.1 c.in_ok-send_made.ensures.sent
+    let made = c.serve_recorded-end.ensures.served.these in
+    prints_call g.W.Write.contents _ _ _ _ c.serve_recorded-end.result _ _ _ _ _ _ _ c.stop_before.ensures.made
+    c.stop_before.ensures.sent made.0 c.in_ok-send_made.ensures.sent
 
 pub returns-in-None-clause-printed : goal.returns-in-None-clause-printed
 returns-in-None-clause-printed g c =
-    let made = c.in-Ok.ensures.served.these in
-    printed_by_all c.stop_behind.result _ (prints_call g.W.Write.contents _ _ _ _ made.0 c.in-Ok.end _ _ _ _ _ _ _
-    c.stop_before.ensures.made c.stop_before.ensures.sent made.1 c.in_ok-send_made.ensures.sent)
+    let made = c.serve_recorded-end.ensures.served.these in
+    printed_by_all c.stop_behind.result _ (prints_call g.W.Write.contents _ _ _ _ c.serve_recorded-end.result _ _ _ _ _ _ _
+    c.stop_before.ensures.made c.stop_before.ensures.sent made.0 c.in_ok-send_made.ensures.sent)
 
 pub returns-in-Some-clause-counted : goal.returns-in-Some-clause-counted
 returns-in-Some-clause-counted g c = λ _ after.

@@ -11,7 +11,7 @@ use Rattle.rrs_gdb.proofs.session.go.Goals.{in-Step, in-Proceed}
 
 pub returns-then-has_ended-clause-places : goal.returns-then-has_ended-clause-places
 returns-then-has_ended-clause-places g c =
-    record { stops_kept = refl; watches_kept = refl; settings_kept = refl; caught_kept = refl }
+    record { stops_kept = refl; watches_kept = refl; settings_kept = refl; caught_kept = refl; profile_kept = refl }
 
 pub returns-then-has_ended-clause-goes_on : goal.returns-then-has_ended-clause-goes_on
 returns-then-has_ended-clause-goes_on g c =
@@ -26,7 +26,7 @@ returns-then-has_ended-clause-error g c = c.tell_stop.ensures.no_error
 -- a signal
 pub returns-in-Killed-clause-places : goal.returns-in-Killed-clause-places
 returns-in-Killed-clause-places g c =
-    record { stops_kept = refl; watches_kept = refl; settings_kept = refl; caught_kept = refl }
+    record { stops_kept = refl; watches_kept = refl; settings_kept = refl; caught_kept = refl; profile_kept = refl }
 
 pub returns-in-Killed-clause-goes_on : goal.returns-in-Killed-clause-goes_on
 returns-in-Killed-clause-goes_on g c =
@@ -57,6 +57,7 @@ returns-clause-places g c =
       watches_kept = kept.watches_kept;
       settings_kept = kept.settings_kept;
       caught_kept = kept.caught_kept;
+      profile_kept = kept.profile_kept;
     }
 
 pub returns-clause-goes_on : goal.returns-clause-goes_on

@@ -38,6 +38,7 @@ returns-clause-places g c =
       watches_kept = gone.watches_kept ∙ begun.watches_kept;
       settings_kept = gone.settings_kept ∙ begun.settings_kept;
       caught_kept = gone.caught_kept ∙ begun.caught_kept;
+      profile_kept = gone.profile_kept ∙ begun.profile_kept;
     }
 
 pub returns-clause-error : goal.returns-clause-error
@@ -45,7 +46,7 @@ returns-clause-error g c = no_such c.go.result _ _ c.go.ensures.error
 
 pub returns-in_default-clause-places : goal.returns-in_default-clause-places
 returns-in_default-clause-places g c =
-    record { stops_kept = refl; watches_kept = refl; settings_kept = refl; caught_kept = refl }
+    record { stops_kept = refl; watches_kept = refl; settings_kept = refl; caught_kept = refl; profile_kept = refl }
 
 pub returns-in_default-clause-error : goal.returns-in_default-clause-error
 returns-in_default-clause-error g c =

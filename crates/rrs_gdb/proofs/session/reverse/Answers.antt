@@ -22,6 +22,7 @@ returns-clause-places g c =
       watches_kept = kept.watches_kept;
       settings_kept = kept.settings_kept;
       caught_kept = kept.caught_kept;
+      profile_kept = kept.profile_kept;
     }
 
 pub returns-clause-error : goal.returns-clause-error

@@ -7,9 +7,9 @@ use Rattle.rrs_trace.specs.declared.outside.DataRequest.{DataRequest}
 use Rattle.rrs_lib.specs.declared.MemAccessSize.TheVariants.{Word}
 use Rattle.rrs_words.specs.declared.atomics.AtomicRow.{AtomicRow}
 use Rattle.rrs_hart.specs.Atomics.{aligned_accesses, holds, swap_accesses}
-use Rattle.rrs_gdb.specs.Carrying.{TouchesOneOf}
-use Rattle.rrs_gdb.proofs.CarryingLemmas.{aligned_touched, amo_touched, request_touched}
-use Rattle.rrs_gdb.proofs.carrying.atomic_touched.Goals as goal
+use Rattle.rrs_gdb.specs.Harts.{TouchesOneOf}
+use Rattle.rrs_gdb.proofs.HartLemmas.{aligned_touched, amo_touched, request_touched}
+use Rattle.rrs_gdb.proofs.harts.atomic_touched.Goals as goal
 
 pub returns-in-LrW-clause-touched : goal.returns-in-LrW-clause-touched
 returns-in-LrW-clause-touched g c =

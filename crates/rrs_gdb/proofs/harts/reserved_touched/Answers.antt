@@ -2,9 +2,9 @@ use Rattle.std.proofs.Common.{subst, sym, Option, ℕ, if◌then◌else◌, [], 
 use Rattle.rrs_lib.specs.declared.MemAccessSize.TheVariants.{Word}
 use Rattle.rrs_lib.specs.Accesses.{write_in}
 use Rattle.rrs_hart.specs.Atomics.{holds}
-use Rattle.rrs_gdb.specs.Carrying.{TouchesOneOf}
-use Rattle.rrs_gdb.proofs.CarryingLemmas.{stores_reserved}
-use Rattle.rrs_gdb.proofs.carrying.reserved_touched.Goals as goal
+use Rattle.rrs_gdb.specs.Harts.{TouchesOneOf}
+use Rattle.rrs_gdb.proofs.HartLemmas.{stores_reserved}
+use Rattle.rrs_gdb.proofs.harts.reserved_touched.Goals as goal
 
 pub returns-in-Some : goal.returns-in-Some
 returns-in-Some c = λ s value.

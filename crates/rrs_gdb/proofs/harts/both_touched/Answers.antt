@@ -1,7 +1,7 @@
 use Rattle.std.proofs.Common.{sym, ◌∙◌}
 use Rattle.rrs_lib.specs.Executor.{state_in}
-use Rattle.rrs_gdb.proofs.CarryingLemmas.{swap_loads, swap_stores, swap_unmapped}
-use Rattle.rrs_gdb.proofs.carrying.both_touched.Goals as goal
+use Rattle.rrs_gdb.proofs.HartLemmas.{swap_loads, swap_stores, swap_unmapped}
+use Rattle.rrs_gdb.proofs.harts.both_touched.Goals as goal
 
 pub returns-in-Some-clause-touched : goal.returns-in-Some-clause-touched
 returns-in-Some-clause-touched g c = λ row f.

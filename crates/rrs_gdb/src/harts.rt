@@ -1,122 +1,69 @@
-//! Instructions that are carried out where a step faults at them.
+//! Steps of the hart of a session, made where the kit's own step raises an exception.
 //!
-//! A load or a store at a misaligned address and an instruction of extension A are carried out as
-//! `rrs exec` does, by [mend]. For a session each is one instruction: its history keeps it as a
-//! call, and a watchpoint sees its whole access before it is made.
+//! An instruction of a layer of its profile, a load or a store at a misaligned address, and
+//! compressed code are steps of the hart, as `rrs exec` makes them. For a session each is one
+//! instruction: its history keeps it as a call, and a watchpoint sees its whole access before it is
+//! made.
 
-ghost use Rattle.std.specs.Prelude.{◌≡◌, ◌≢◌, ◌%◌, ◌<◌, ◌∷◌, [], if◌then◌else◌, ℕ, Bool, Option, Contains, MatchOption};
-ghost use Rattle.std.specs.Bool.{OnTrue, OnFalse};
+ghost use Rattle.std.specs.Prelude.{◌≡◌, ◌%◌, ◌<◌, ◌∷◌, [], if◌then◌else◌, ℕ, Bool, Option, MatchOption};
 ghost use Rattle.rrs_instruction.specs.declared.instruction_formats.RType.{RType as RFields};
 ghost use Rattle.rrs_instruction.specs.Encodings.{HasRegisters, R};
 ghost use Rattle.rrs_instruction.specs.Instructions.{row_of, fields_of};
 ghost use Rattle.rrs_instruction.specs.Table.{table};
-ghost use Rattle.rrs_lib.specs.Bytes.{width, little_endian};
+ghost use Rattle.rrs_lib.specs.Bytes.{little_endian};
 ghost use Rattle.rrs_lib.specs.Machine.{State, state_of, reg, plus_immediate};
 ghost use Rattle.rrs_lib.specs.Executor.{state_in, KeepsTheRest};
 ghost use Rattle.rrs_lib.specs.Accesses.{write_in};
 ghost use Rattle.rrs_hart.specs.Atomics.{accesses_of_atomic, holds, swap_accesses};
-ghost use Rattle.rrs_trace.specs.Outside.{request_by, address_of, size_asked};
-ghost use Rattle.rrs_gdb.specs.declared.breaks.Watch.{Watch};
-ghost use Rattle.rrs_gdb.specs.Carrying.{may_carry, AsksMisaligned, TouchesOneOf, CarriedTouchesNone, CarriedTouchesOne, Carried, MadeAgain};
+ghost use Rattle.rrs_hart.specs.Harts.{hart_with, layer_accesses, HasLayerRegisters};
+ghost use Rattle.rrs_trace.specs.Outside.{request_by};
+ghost use Rattle.rrs_gdb.specs.Harts.{may_differ, encoding_at, TouchesOneOf, TouchesAsked, HartTouchesNone, HartTouchesOne};
 
 use crate::breaks::{Watch, touched};
-use rrs_exec::mend;
-use rrs_fast::Environment;
-use rrs_history::{History, serve_recorded, step_back, step_recorded};
+use rrs_hart::{Encoding, HartProfile, fetch_encoding, layer_in, row_in};
 use rrs_instruction::arithmetic;
-use rrs_lib::instruction::{Instruction, decode};
+use rrs_lib::instruction::Instruction;
 use rrs_lib::instruction_executor::{InstructionException, InstructionExecutor, fetch_word};
 use rrs_lib::instruction_formats::{IType, RType, SType};
 use rrs_lib::{HartState, MemAccessSize, Memory};
 use rrs_trace::DataRequest;
-use rrs_words::{AtomicRow, decode_atomic};
+use rrs_words::{AtomicRow, LayerInstruction};
 
-/// Whether an instruction may be carried out after a fault.
-pub(crate) fn may_carry(fault: &InstructionException) -> bool
-    ensures { result ≡ may_carry fault.now }
+/// Whether the hart may make another step in the place of one of the kit that raised an exception.
+pub(crate) fn may_differ(fault: &InstructionException) -> bool
+    ensures { result ≡ may_differ fault.now }
 {
     match fault {
-        InstructionException::AlignmentFault(_) => true,
-        InstructionException::IllegalInstruction(_, _) => true,
+        InstructionException::AlignmentFault(_)
+        | InstructionException::IllegalInstruction(_, _)
+        | InstructionException::FetchError(_) => true,
         InstructionException::Breakpoint(_)
-        | InstructionException::FetchError(_)
         | InstructionException::LoadAccessFault(_)
         | InstructionException::StoreAccessFault(_)
         | InstructionException::EnvironmentCall(_) => false,
     }
 }
 
-/// What carries out the instruction of a fault, in the place of the environment of a call.
-#[derive(Drop)]
-pub(crate) struct Carrier {
-    /// The fault.
-    pub(crate) fault: InstructionException,
-    /// The address that is reserved.
-    pub(crate) reservation: Option<u32>,
-    /// What came of it.
-    pub(crate) answer: Result<(), InstructionException>,
-}
-
-impl Environment for Carrier {
-    ghost use Rattle.rrs_gdb.specs.Carrying.{carries};
-
-    ghost serves = { carries };
-
-    fn serve<M: Memory>(&mut self, executor: &mut InstructionExecutor<M>) -> Option<u32> {
-        self.answer = mend(executor, &mut self.reservation, false, self.fault);
-        // the pc is where it is left
-        Some(0)
-    }
-}
-
-/// Carries out the instruction of a fault, and has a history keep it as a call.
-///
-/// # Errors
-///
-/// Those of [mend]. Neither the machine nor what the history leads back to is changed then; a `sc.w`
-/// that is refused takes the reservation away.
-pub(crate) fn carry<M: Memory>(
+/// The instruction at the pc, if there is one.
+fn encoding_at<M: Memory>(
     executor: &mut InstructionExecutor<M>,
-    history: &mut History,
-    reservation: &mut Option<u32>,
-    fault: InstructionException,
-) -> Result<(), InstructionException>
-    ensures carried { Carried fault reservation.old history.old
-        (state_in M.bytes M.writable executor.old) result reservation.new history.new
-        (state_in M.bytes M.writable executor.new) }
+    profile: HartProfile,
+) -> Option<Encoding>
+    ensures found { result ≡ encoding_at profile (state_in M.bytes M.writable executor.old) }
+    ensures kept { state_in M.bytes M.writable executor.new
+        ≡ state_in M.bytes M.writable executor.old }
     ensures rest { KeepsTheRest M.layout executor.old executor.new }
 {
-    let mut carrier = Carrier {
-        fault,
-        reservation: *reservation,
-        answer: Ok(()),
-    };
-    let _end = serve_recorded(executor, &mut carrier, history);
-    *reservation = carrier.reservation;
-    match carrier.answer {
-        Ok(()) => Ok(()),
-        Err(left) => {
-            let _change = step_back(executor, history);
-            Err(left)
-        }
+    let pc = executor.hart_state.pc;
+    if profile.compressed {
+        return match fetch_encoding(executor.mem, pc) {
+            Ok(encoding) => Some(encoding),
+            Err(_) => None,
+        };
     }
-}
-
-/// Makes the instruction at the pc again, which was taken back. Returns whether a step faulted at
-/// it, and it was carried out.
-pub(crate) fn make_again<M: Memory>(
-    executor: &mut InstructionExecutor<M>,
-    history: &mut History,
-    reservation: &mut Option<u32>,
-) -> bool
-    ensures made { MadeAgain reservation.old history.old
-        (state_in M.bytes M.writable executor.old) reservation.new history.new
-        (state_in M.bytes M.writable executor.new) }
-    ensures rest { KeepsTheRest M.layout executor.old executor.new }
-{
-    match step_recorded(executor, history) {
-        Ok(()) => false,
-        Err(fault) => carry(executor, history, reservation, fault).is_ok(),
+    match fetch_word(executor.mem, pc) {
+        Ok(word) => Some(Encoding::Long(word)),
+        Err(_) => None,
     }
 }
 
@@ -160,35 +107,6 @@ fn access_anywhere(hart: &HartState, instruction: &Instruction) -> Option<DataRe
         Instruction::Sh(fields) => Some(store_at(hart, fields, MemAccessSize::HalfWord)),
         Instruction::Sw(fields) => Some(store_at(hart, fields, MemAccessSize::Word)),
         _ => None,
-    }
-}
-
-/// Whether the address of an access is no multiple of its size.
-fn is_misaligned(request: DataRequest) -> bool
-    ensures yes { OnTrue result (address_of request % width (size_asked request) ≢ 0) }
-    ensures no { OnFalse result (address_of request % width (size_asked request) ≡ 0) }
-{
-    let (address, size) = match request {
-        DataRequest::Load(address, size) => (address, size),
-        DataRequest::Store(address, size, _) => (address, size),
-    };
-    !size.is_aligned(address)
-}
-
-/// The watchpoint that a word touches as a load or a store at a misaligned address.
-fn misaligned_touched(watches: &[Watch], hart: &HartState, word: u32) -> Option<Watch>
-    ensures { (bytes : ℕ → Option ℕ) (writable : ℕ → Bool) → MatchOption result
-        ((watch : Watch) → Contains watches.now watch
-        → ¬ AsksMisaligned word (state_of hart.now bytes writable) watch)
-        (λ watch. Contains watches.now watch
-        × AsksMisaligned word (state_of hart.now bytes writable) watch) }
-{
-    let instruction = decode(word)?;
-    let request = access_anywhere(hart, &instruction)?;
-    if is_misaligned(request) {
-        touched(watches, request)
-    } else {
-        None
     }
 }
 
@@ -256,33 +174,69 @@ fn atomic_touched<M: Memory>(
     }
 }
 
-/// The first watchpoint that the instruction at the pc touches where it is carried out after a
-/// fault, with this address reserved or none. The word is fetched, if there are watchpoints, and an
-/// AMO's word is read; nothing changes.
-pub(crate) fn watch_carried<M: Memory>(
+/// The watchpoint that a load or a store touches, wherever its address is.
+fn row_touched(watches: &[Watch], hart: &HartState, instruction: &Instruction) -> Option<Watch>
+    requires { HasRegisters (fields_of instruction.now) }
+    ensures { (bytes : ℕ → Option ℕ) (writable : ℕ → Bool) → TouchesAsked watches.now
+        (request_by (table (row_of instruction.now)).action (fields_of instruction.now)
+        (state_of hart.now bytes writable)) result }
+{
+    match access_anywhere(hart, instruction) {
+        Some(request) => touched(watches, request),
+        None => None,
+    }
+}
+
+/// The watchpoint that an instruction of a layer touches.
+fn layer_touched<M: Memory>(
     executor: &mut InstructionExecutor<M>,
     watches: &[Watch],
+    reservation: Option<u32>,
+    instruction: &LayerInstruction,
+) -> Option<Watch>
+    requires { HasLayerRegisters instruction.now }
+    ensures kept { state_in M.bytes M.writable executor.new
+        ≡ state_in M.bytes M.writable executor.old }
+    ensures touched { TouchesOneOf watches.now (layer_accesses instruction.now
+        (state_in M.bytes M.writable executor.old) reservation) result }
+    ensures rest { KeepsTheRest M.layout executor.old executor.new }
+{
+    match instruction {
+        LayerInstruction::System(_) | LayerInstruction::Bits(_) => None,
+        LayerInstruction::Atomic(atomic) => {
+            atomic_touched(executor, watches, reservation, atomic.row, &atomic.fields)
+        }
+    }
+}
+
+/// The first watchpoint that the instruction at the pc touches by a step of the hart, with this
+/// address reserved or none. It is fetched, if there are watchpoints, and an AMO's word is read;
+/// nothing changes.
+pub(crate) fn watch_hart<M: Memory>(
+    executor: &mut InstructionExecutor<M>,
+    watches: &[Watch],
+    profile: HartProfile,
     reservation: Option<u32>,
 ) -> Option<Watch>
     ensures kept { state_in M.bytes M.writable executor.new
         ≡ state_in M.bytes M.writable executor.old }
-    ensures touched { MatchOption result (CarriedTouchesNone watches.now reservation
-        (state_in M.bytes M.writable executor.old)) (λ watch. CarriedTouchesOne watches.now
-        reservation (state_in M.bytes M.writable executor.old) watch) }
+    ensures touched { MatchOption result (HartTouchesNone watches.now profile
+        (hart_with (state_in M.bytes M.writable executor.old) reservation))
+        (λ watch. HartTouchesOne watches.now profile
+        (hart_with (state_in M.bytes M.writable executor.old) reservation) watch) }
     ensures rest { KeepsTheRest M.layout executor.old executor.new }
 {
     if watches.is_empty() {
         return None;
     }
-    let Ok(word) = fetch_word(executor.mem, executor.hart_state.pc) else {
+    let Some(encoding) = encoding_at(executor, profile) else {
         return None;
     };
-    if let Some(watch) = misaligned_touched(watches, executor.hart_state, word) {
-        return Some(watch);
+    if let Some(instruction) = row_in(encoding) {
+        return row_touched(watches, executor.hart_state, &instruction);
     }
-    let Some(instruction) = decode_atomic(word) else {
-        return None;
-    };
-    let fields = &instruction.fields;
-    atomic_touched(executor, watches, reservation, instruction.row, fields)
+    match layer_in(profile, encoding) {
+        Some(instruction) => layer_touched(executor, watches, reservation, &instruction),
+        None => None,
+    }
 }
