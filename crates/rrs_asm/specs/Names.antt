@@ -1,7 +1,7 @@
 -- The names of statements: of instructions, which are those of the table, of pseudo-instructions
 -- (RISC-V unprivileged specification, "RISC-V Assembly Programmer's Handbook"), and of directives
 -- (GNU assembler manual, "Assembler Directives").
-use Rattle.std.specs.Prelude.{◌≡◌, ℕ, Bool, true, false, ◌&&◌, ◌||◌, ◌==◌, List, [], ◌∷◌, ◌++◌, if◌then◌else◌, map, codes}
+use Rattle.std.specs.Prelude.{◌≡◌, ◌⊎◌, ℕ, Bool, true, false, ◌&&◌, ◌||◌, ◌==◌, List, [], ◌∷◌, ◌++◌, if◌then◌else◌, map, codes}
 use Rattle.std.specs.List.{filter, list_any, starts_with}
 use Rattle.std.specs.Str.{bytes_eq}
 use Rattle.rrs_instruction.specs.Table.{table}
@@ -12,6 +12,10 @@ use Rattle.rrs_words.specs.declared.instructions.SystemRow.TheVariants as Row
 use Rattle.rrs_words.specs.SystemInstructions.{system_table, csr_number}
 use Rattle.rrs_words.specs.declared.layers.LayerInstruction.{LayerInstruction}
 use Rattle.rrs_words.specs.AtomicTexts.{atomic_name}
+use Rattle.rrs_words.specs.BitInstructions.{bit_table}
+use Rattle.rrs_words.specs.Forms.{form_table}
+use Rattle.rrs_words.specs.declared.forms.ShortForm.{ShortForm}
+use Rattle.rrs_words.specs.declared.forms.ShortInstruction.{ShortInstruction}
 use Rattle.rrs_asm.specs.declared.system.Counter.{Counter}
 use Rattle.rrs_asm.specs.declared.system.SystemForm.{SystemForm}
 use Rattle.rrs_asm.specs.declared.pseudo.Unary.{Unary}
@@ -227,11 +231,23 @@ abbrev pub IsLayerNamed : List ℕ → LayerInstruction → Type 0
 IsLayerNamed name (LayerInstruction.System i) =
     is_one_of (system_names i.row i.fields) name ≡ true
 IsLayerNamed name (LayerInstruction.Atomic i) = atomic_name i.row i.fields.funct7 ≡ name
+IsLayerNamed name (LayerInstruction.Bits i) = (bit_table i.row).name ≡ name
+
+-- c.nop, which is c.addi x0, 0
+abbrev pub short_nop : ShortInstruction
+short_nop =
+    record { form = ShortForm.Addi; operands = record { first = 0; second = 0; imm = 0 } }
+
+-- a compressed instruction is one of this name: that of its form, or `c.nop`
+abbrev pub IsShortNamed : List ℕ → ShortInstruction → Type 0
+IsShortNamed name i =
+    ((form_table i.form).name ≡ name) ⊎ ((codes "c.nop" ≡ name) × (i ≡ short_nop))
 
 -- a statement is one of this name
 abbrev pub IsNamed : List ℕ → Statement → Type 0
 IsNamed name (Statement.Instruction i) = (table (row_of i)).name ≡ name
 IsNamed name (Statement.Layer i) = IsLayerNamed name i
+IsNamed name (Statement.Short i) = IsShortNamed name i
 IsNamed name (Statement.Pseudo pseudo) = pseudo_name pseudo ≡ name
 IsNamed name (Statement.Data count) = is_one_of data_names name ≡ true
 IsNamed name (Statement.Fill count byte) = is_one_of fill_names name ≡ true

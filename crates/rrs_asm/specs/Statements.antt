@@ -1,9 +1,10 @@
 -- Which bytes a statement is, how statements stand one after another, and what is made of items.
-use Rattle.std.specs.Prelude.{◌≡◌, ℕ, ◌+◌, ◌%◌, ◌^◌, List, [], ◌∷◌, ◌++◌, length, replicate}
-use Rattle.std.specs.Int.{to_le_bytes, w32}
+use Rattle.std.specs.Prelude.{◌≡◌, ℕ, ◌+◌, ◌%◌, ◌^◌, Bool, true, false, List, [], ◌∷◌, ◌++◌, length, replicate}
+use Rattle.std.specs.Int.{to_le_bytes, w16, w32}
 use Rattle.rrs_instruction.specs.declared.instruction.Instruction.{Instruction}
 use Rattle.rrs_instruction.specs.Instructions.{IsInstruction}
 use Rattle.rrs_words.specs.Layers.{IsOfLayer}
+use Rattle.rrs_words.specs.Forms.{IsShort}
 use Rattle.rrs_asm.specs.declared.statements.Statement.{Statement}
 use Rattle.rrs_asm.specs.declared.output.Label.{Label}
 use Rattle.rrs_asm.specs.declared.output.Placed.{Placed}
@@ -22,10 +23,16 @@ AreWords (i ∷ others) bytes =
 abbrev pub AreBytes : Statement → List ℕ → Type 0
 AreBytes (Statement.Instruction i) bytes = AreWords (i ∷ []) bytes
 AreBytes (Statement.Layer i) bytes = (w : ℕ) × IsOfLayer w i × (bytes ≡ to_le_bytes w32 w)
+AreBytes (Statement.Short i) bytes =
+    (h : ℕ) × IsShort h i.form i.operands × (bytes ≡ to_le_bytes w16 h)
 AreBytes (Statement.Pseudo pseudo) bytes = AreWords (expanded pseudo) bytes
 AreBytes (Statement.Data count) bytes = length bytes ≡ count
 AreBytes (Statement.Fill count byte) bytes = bytes ≡ replicate count byte
 AreBytes Statement.Unimp bytes = bytes ≡ to_le_bytes w32 0xc0001073
+
+abbrev pub is_short : Statement → Bool
+is_short (Statement.Short i) = true
+is_short _ = false
 
 -- The statements stand one after another from an address on: the address of each is that of the
 -- one before and its size. These are their bytes.

@@ -344,6 +344,15 @@ impl<'a, A: Allocator> Reading<'a, A> {
             section.align(alignment);
         }
     }
+
+    /// Takes compressed instructions in the section that is open, if one is.
+    fn take_compressed(&mut self)
+        ensures { ReadsOn [] self.old self.new }
+    {
+        if let Some(section) = self.sections.get_mut(self.current) {
+            section.take_compressed();
+        }
+    }
 }
 
 /// Which of the sections has a name: as many as there are where none has it.
@@ -559,6 +568,7 @@ fn perform<'a, A: Allocator + Copy>(
 {
     match read {
         Read::Nothing => (),
+        Read::Compressed => reading.take_compressed(),
         Read::Constant(name, value) => define_constant(name, value, start, symbols, reading),
         Read::Label(name) => put_label(name, number, start, symbols, reading),
         Read::Skipped(_, _) => check_skipped(start, reading),

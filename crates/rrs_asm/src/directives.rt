@@ -40,6 +40,8 @@ pub enum Read<'a> {
     Section(&'a [u8], Option<SectionKind>),
     /// A label or a statement of this name stands in a section that is not laid out.
     Skipped(&'a [u8], bool),
+    /// Compressed instructions can stand in this section.
+    Compressed,
     /// Nothing.
     Nothing,
 }
@@ -219,17 +221,23 @@ fn kind_of_flags(text: &[u8]) -> Option<SectionKind> {
     }
 }
 
-/// The options that allow no other instructions.
+/// The options that mean nothing here.
 const OPTIONS: [&[u8]; 6] = [b"norvc", b"relax", b"norelax", b"push", b"pop", b"nopic"];
 
-/// Reads an option. Those that would allow other instructions are refused.
+/// Reads an option: `rvc`, or one that means nothing here. Those that would allow other
+/// instructions are refused.
 fn read_option<'a>(line: &mut Line<'a, '_>) -> Read<'a>
     ensures items { (number : ℕ) → items_of_read number result ≡ [] }
     ensures name { HasItsName result }
 {
     line.skip_blanks();
     let error = line.error(SourceErrorKind::Unsupported);
-    if !OPTIONS.contains(&line.word()) {
+    let option = line.word();
+    if option == b"rvc".as_slice() {
+        line.skip_all();
+        return Read::Compressed;
+    }
+    if !OPTIONS.contains(&option) {
         line.fail(error);
     }
     line.skip_all();
@@ -448,7 +456,8 @@ fn alignment(line: &mut Line, is_power: bool) -> u32
 }
 
 /// Reads which byte fills up to an alignment, and how many at most: otherwise nothing is filled.
-/// Between instructions there are `nop`s after zeros up to a multiple of 4, if no byte is said.
+/// Between instructions there are, if no byte is said, a zero up to an even address, `c.nop` up to
+/// a multiple of 4, and `nop`s.
 fn read_padding<A: Allocator>(line: &mut Line, alignment: u32, bytes: &mut Vec<u8, A>)
     requires { 0 < alignment }
 {
@@ -459,12 +468,20 @@ fn read_padding<A: Allocator>(line: &mut Line, alignment: u32, bytes: &mut Vec<u
         return;
     }
     let has_nops = fill.is_none() && line.site.is_code;
-    let filled = if has_nops { count % 4 } else { count };
+    let filled = if has_nops { count % 2 } else { count };
     line.keep(bytes.resize(filled as usize, fill.unwrap_or(0)));
     if has_nops {
-        for _ in 0..count / 4 {
-            line.keep(bytes.extend_from_slice(&[0x13, 0, 0, 0]));
-        }
+        append_nops(line, count, bytes);
+    }
+}
+
+/// Appends `c.nop` for two bytes beside a multiple of 4, and `nop` for each four of the others.
+fn append_nops<A: Allocator>(line: &mut Line, count: u32, bytes: &mut Vec<u8, A>) {
+    if count % 4 >= 2 {
+        line.keep(bytes.extend_from_slice(&[1, 0]));
+    }
+    for _ in 0..count / 4 {
+        line.keep(bytes.extend_from_slice(&[0x13, 0, 0, 0]));
     }
 }
 

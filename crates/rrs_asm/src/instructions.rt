@@ -7,8 +7,10 @@ ghost use Rattle.rrs_asm.specs.Names.{IsNamed, pseudo_name, branch_name, load_na
 ghost use Rattle.rrs_asm.specs.Forms.{form_name, IsRowForm};
 
 use crate::atomic::read_atomic;
+use crate::bits::{bits_named, read_bits};
 use crate::names::{PseudoForm, pseudo_named};
 use crate::pseudo::{Branch, Load, Pseudo, Store};
+use crate::short::read_short;
 use crate::statements::Statement;
 use crate::system::{read_system, system_named};
 use rrs_asm_lines::{Line, LineError, SourceErrorKind, place_among};
@@ -39,9 +41,6 @@ pub fn read_instruction(
 ) -> Result<Statement, LineError>
     ensures { IfOk result (IsNamed name.now) }
 {
-    if line.site.here % 4 != 0 {
-        return Err(error.with_kind(SourceErrorKind::Misplaced));
-    }
     if let Some(template) = instruction_named(name) {
         return Ok(read_row(line, template));
     }
@@ -54,9 +53,15 @@ pub fn read_instruction(
     if name == b"unimp".as_slice() {
         return Ok(Statement::Unimp);
     }
-    // The names of extension A are many, and each has a dot.
+    if let Some(template) = bits_named(name) {
+        return Ok(read_bits(line, template));
+    }
+    // The other names are many, and each has a dot.
     if !name.contains(&b'.') {
         return Err(error);
+    }
+    if let Some(statement) = read_short(line, name) {
+        return Ok(statement);
     }
     match atomic_named(name) {
         Some((row, funct7)) => Ok(read_atomic(line, row, funct7)),

@@ -1,7 +1,8 @@
 //! What is made of a source.
 
 ghost use Rattle.std.specs.Prelude.{◌≡◌, ◌≤◌, ◌+◌, ◌^◌, ℕ, List, [], ◌∷◌, ◌++◌, OnOk, IfOk, length, replicate, take};
-ghost use Rattle.std.specs.Int.{to_le_bytes, w32};
+ghost use Rattle.std.specs.Int.{to_le_bytes, w16, w32};
+ghost use Rattle.rrs_words.specs.Forms.{IsShort};
 ghost use Rattle.rrs_words.specs.Layers.{IsOfLayer};
 ghost use Rattle.rrs_asm.specs.declared.statements.Statement.{Statement};
 ghost use Rattle.rrs_asm.specs.Statements.{AreWords, AreBytes, AddsPlaced};
@@ -12,7 +13,7 @@ use crate::statements::Statement;
 use rrs_asm_lines::{Halt, LineError, SourceErrorKind};
 use rrs_encode::encode;
 use rrs_instruction::instruction::Instruction;
-use rrs_words::{LayerInstruction, encode_layer};
+use rrs_words::{LayerInstruction, ShortInstruction, encode_layer, encode_short};
 use std::alloc::{Allocator, Global};
 
 /// The most bytes that are made of a source: 64 MiB.
@@ -130,6 +131,7 @@ fn append<A: Allocator>(
     match statement {
         Statement::Instruction(instruction) => append_instruction(bytes, instruction),
         Statement::Layer(instruction) => append_layer(bytes, instruction),
+        Statement::Short(instruction) => append_short(bytes, instruction),
         Statement::Pseudo(pseudo) => append_expansion(bytes, &pseudo.expand()),
         Statement::Data(count) => append_data(bytes, given, *count),
         Statement::Fill(count, byte) => append_fill(bytes, *count, *byte),
@@ -147,6 +149,23 @@ fn append_layer<A: Allocator>(
 {
     match encode_layer(instruction) {
         Some(word) => Ok(bytes.extend_from_slice(&word.to_le_bytes())?),
+        None => Err(Halt::Error(LineError {
+            kind: SourceErrorKind::Range,
+            left: 0,
+        })),
+    }
+}
+
+/// Appends the half-word of a compressed instruction, its lowest byte first.
+fn append_short<A: Allocator>(
+    bytes: &mut Vec<u8, A>,
+    instruction: &ShortInstruction,
+) -> Result<(), Halt>
+    ensures { OnOk result ((h : ℕ) × IsShort h instruction.now.form instruction.now.operands
+        × (bytes.new.items ≡ bytes.old.items ++ to_le_bytes w16 h)) }
+{
+    match encode_short(instruction) {
+        Some(half) => Ok(bytes.extend_from_slice(&half.to_le_bytes())?),
         None => Err(Halt::Error(LineError {
             kind: SourceErrorKind::Range,
             left: 0,

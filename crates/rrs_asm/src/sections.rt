@@ -1,6 +1,6 @@
 //! Sections: their kinds, what was made of each, and where they lie.
 
-ghost use Rattle.std.specs.Prelude.{◌≡◌, max, ◌≤◌, ◌+◌, ◌%◌, ◌^◌, ℕ, List, [], ◌∷◌, true, false, OnOk, IfOk, IfSome, All, length};
+ghost use Rattle.std.specs.Prelude.{◌≡◌, max, ◌<◌, ◌≤◌, ◌+◌, ◌%◌, ◌^◌, ℕ, List, [], ◌∷◌, true, false, OnOk, IfOk, IfSome, All, length};
 ghost use Rattle.rrs_asm.specs.Source.{Item, is_laid_out};
 ghost use Rattle.rrs_asm.specs.Names.{IsNamed};
 ghost use Rattle.rrs_asm.specs.Sections.{flat, is_data, data_address, filled_end, start_behind, is_name_of, ends_name, kind_of_name, HasItsKind, IsBehind, AreBehind, ArePlaced};
@@ -61,6 +61,8 @@ pub struct Section<'a, A: Allocator = Global> {
     pub address: u32,
     /// The greatest alignment in it, a power of 2.
     pub alignment: u32,
+    /// Whether compressed instructions can stand in it: one does, or `.option rvc`.
+    pub takes_compressed: bool,
     /// What is made of the items in it.
     pub made: Assembled<'a, A>,
     /// How many bytes it had in the reading before.
@@ -75,6 +77,7 @@ impl<'a, A: Allocator + Copy> Section<'a, A> {
             kind,
             address,
             alignment,
+            takes_compressed: false,
             made: Assembled::new(alloc),
             before: 0,
         }
@@ -100,6 +103,13 @@ impl<'a, A: Allocator> Section<'a, A> {
         if alignment > self.alignment {
             self.alignment = alignment;
         }
+    }
+
+    /// Takes compressed instructions.
+    pub fn take_compressed(&mut self)
+        ensures items { Grows [] self.old self.new }
+    {
+        self.takes_compressed = true;
     }
 
     /// Goes on at the next multiple of 4.
@@ -159,11 +169,22 @@ impl<'a, A: Allocator> Section<'a, A> {
         if matches!(self.kind, SectionKind::Zero) && !statement.is_zero(data) {
             return Err(Halt::Error(start.with_kind(SourceErrorKind::Zeros)));
         }
+        self.takes_compressed = self.takes_compressed || statement.is_short();
+        if self.here() % statement.alignment(self.unit()) != 0 {
+            return Err(Halt::Error(start.with_kind(SourceErrorKind::Misplaced)));
+        }
         let size = self.made.bytes.len().saturating_add(statement.size());
         if u64::from(self.address).saturating_add(size as u64) > 1 << 32 {
             return Err(Halt::Error(start.with_kind(SourceErrorKind::TooLong)));
         }
         self.made.place(self.address, line, statement, data)
+    }
+
+    /// What the addresses of instructions are multiples of.
+    fn unit(&self) -> u32
+        ensures { 0 < result }
+    {
+        if self.takes_compressed { 2 } else { 4 }
     }
 
     /// How many bytes the next multiple of an alignment is away.

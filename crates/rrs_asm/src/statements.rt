@@ -1,11 +1,11 @@
 //! Statements: what stands at an address.
 
-ghost use Rattle.std.specs.Prelude.{◌≡◌, ℕ, List, length};
-ghost use Rattle.rrs_asm.specs.Statements.{AreBytes};
+ghost use Rattle.std.specs.Prelude.{◌≡◌, ◌<◌, ℕ, List, length};
+ghost use Rattle.rrs_asm.specs.Statements.{AreBytes, is_short};
 
 use crate::pseudo::Pseudo;
 use rrs_instruction::instruction::Instruction;
-use rrs_words::LayerInstruction;
+use rrs_words::{LayerInstruction, ShortInstruction};
 
 /// What a statement of a source puts at its address.
 #[derive(Clone, Copy)]
@@ -14,6 +14,8 @@ pub enum Statement {
     Instruction(Instruction),
     /// An instruction of a layer, which is no row of the kit.
     Layer(LayerInstruction),
+    /// A compressed instruction.
+    Short(ShortInstruction),
     /// One or two instructions.
     Pseudo(Pseudo),
     /// So many bytes of data.
@@ -31,12 +33,31 @@ impl Statement {
     {
         match self {
             Statement::Instruction(_) | Statement::Layer(_) | Statement::Unimp => 4,
+            Statement::Short(_) => 2,
             Statement::Pseudo(pseudo) => match pseudo.expand().second {
                 None => 4,
                 Some(_) => 8,
             },
             Statement::Data(count) => *count,
             Statement::Fill(count, _) => *count as usize,
+        }
+    }
+
+    /// Whether it is a compressed instruction.
+    pub fn is_short(&self) -> bool
+        ensures { result ≡ is_short self.now }
+    {
+        matches!(self, Statement::Short(_))
+    }
+
+    /// What its address has to be a multiple of, where instructions lie at multiples of `unit`.
+    pub fn alignment(&self, unit: u32) -> u32
+        requires { 0 < unit }
+        ensures { 0 < result }
+    {
+        match self {
+            Statement::Data(_) | Statement::Fill(_, _) => 1,
+            _ => unit,
         }
     }
 

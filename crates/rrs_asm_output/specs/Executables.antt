@@ -1,6 +1,8 @@
 -- The executable of a program (System V generic ABI, "Program Header", PT_LOAD): which section each
--- segment is, and where the program begins (GNU linker manual, "Entry Point").
-use Rattle.std.specs.Prelude.{◌≡◌, ℕ, ◌+◌, ◌<◌, if◌then◌else◌, List, [], ◌∷◌, length, codes, slice_index, Option, Some, None}
+-- segment is, where the program begins (GNU linker manual, "Entry Point"), and whether it has
+-- compressed code (RISC-V ELF psABI, "File Header", EF_RISCV_RVC).
+use Rattle.std.specs.Prelude.{◌≡◌, ℕ, ◌+◌, ◌%◌, ◌<◌, Bool, ◌||◌, if◌then◌else◌, List, [], ◌∷◌, length, codes, slice_index, Option, Some, None}
+use Rattle.std.specs.List.{list_any}
 use Rattle.std.specs.Option.{option_or}
 use Rattle.std.specs.Str.{bytes_eq}
 use Rattle.rrs_asm.specs.declared.output.Label.{Label}
@@ -8,8 +10,11 @@ use Rattle.rrs_asm.specs.declared.sections.Section.{Section}
 use Rattle.rrs_asm.specs.declared.sections.SectionKind.{SectionKind}
 use Rattle.rrs_asm.specs.Source.{is_empty}
 use Rattle.rrs_asm.specs.Sections.{with_bytes}
-use Rattle.rrs_elf.specs.Headers.{e_phnum, e_entry, p_vaddr, p_memsz, p_flags}
-use Rattle.rrs_elf.specs.Executables.{IsLoaded, IsExecutable}
+use Rattle.rrs_asm.specs.Statements.{is_short}
+use Rattle.rrs_elf.specs.declared.code_units.CodeUnit.{CodeUnit}
+use Rattle.rrs_elf.specs.declared.program_headers.Addresses.{Addresses}
+use Rattle.rrs_elf.specs.Headers.{e_phnum, e_entry, e_flags, p_vaddr, p_memsz, p_flags}
+use Rattle.rrs_elf.specs.Executables.{IsLoaded, IsExecutableIn}
 use Rattle.rrs_elf.specs.Loading.{segment_byte}
 
 -- ---- segments
@@ -61,10 +66,23 @@ abbrev pub entry_of : {A : Type 0} → List (Section A) → Option ℕ
 entry_of sections = option_or (address_of (codes "_start") sections)
     (option_or (address_of (codes "main") sections) (first_address sections))
 
+-- ---- compressed code
+
+-- a section has compressed instructions, or `.option rvc` says that it can
+abbrev pub has_compressed : {A : Type 0} → Section A → Bool
+has_compressed s = s.takes_compressed || list_any (λ p. is_short p.statement) s.made.placed.items
+
+-- what the instructions of sections lie in
+abbrev pub unit_of : {A : Type 0} → List (Section A) → CodeUnit
+unit_of [] = CodeUnit.Word
+unit_of (s ∷ others) = if has_compressed s then CodeUnit.HalfWord else unit_of others
+
 -- ---- all of it
 
 -- the file is the executable of these sections
 pub record IsExecutableOf {A : Type 0} (sections : List (Section A)) (file : List ℕ) : Type 0 where
-  pub executable : IsExecutable file
+  pub executable : IsExecutableIn (unit_of sections) Addresses.Virtual file
+  -- EF_RISCV_RVC
+  pub marked : unit_of sections ≡ CodeUnit.HalfWord → e_flags file % 2 ≡ 1
   pub entry : entry_of sections ≡ Some (e_entry file)
   pub segments : AreSegments file 0 (with_bytes sections)

@@ -1,13 +1,16 @@
 //! The executable of a program.
 
-ghost use Rattle.std.specs.Prelude.{◌≡◌, IfOk, OnOk, Some};
+ghost use Rattle.std.specs.Prelude.{◌≡◌, ◌%◌, true, IfOk, OnOk, Some};
+ghost use Rattle.rrs_elf.specs.declared.code_units.CodeUnit.{CodeUnit};
+ghost use Rattle.rrs_elf.specs.Headers.{e_flags};
 ghost use Rattle.rrs_asm_output.specs.Executables.{entry_of, IsExecutableOf};
 
 use crate::accepting::are_segments;
 use crate::entries::entry_of;
 use crate::files::write_file;
+use crate::units::unit_of;
 use rrs_asm::{Program, Section, SectionKind};
-use rrs_elf::{ElfError, Executable};
+use rrs_elf::{Addresses, CodeUnit, ElfError, Executable, has_compressed_code};
 use std::alloc::{AllocError, AllocFailed, Global};
 use std::error::Error;
 use std::fmt;
@@ -17,7 +20,8 @@ use std::fmt;
 pub enum ExecutableError {
     /// No section has bytes.
     Empty,
-    /// The entry is at no multiple of 4, or in no section with instructions.
+    /// The entry is in no section with instructions, or at no multiple of 4, or, where compressed
+    /// instructions can stand, odd.
     Entry(u32),
     /// What was written is no executable of the program. This does not happen.
     Unlike,
@@ -54,7 +58,8 @@ impl<T: Drop> From<AllocFailed<T>> for ExecutableError {
 }
 
 /// The executable of a program, an ELF file for RV32IM: each section that has bytes is a segment,
-/// and each label is a symbol. It begins at `_start`, else at `main`, else at the first byte.
+/// and each label is a symbol. It begins at `_start`, else at `main`, else at the first byte. Its
+/// `e_flags` has `EF_RISCV_RVC` where a section takes compressed instructions.
 ///
 /// # Errors
 ///
@@ -92,14 +97,28 @@ fn accept(file: &[u8], sections: &[Section], entry: u32) -> Result<(), Executabl
     requires { entry_of sections.now ≡ Some entry }
     ensures { OnOk result (IsExecutableOf sections.now file.now) }
 {
-    let executable = match Executable::parse(file) {
+    let unit = unit_of(sections);
+    let executable = match Executable::parse_in(file, Addresses::Virtual, unit) {
         Ok(executable) => executable,
         Err(error) => return Err(refusal_of(error)),
     };
+    if !is_marked(file, unit) {
+        return Err(ExecutableError::Unlike);
+    }
     if executable.entry() == entry && are_segments(&executable, sections) {
         Ok(())
     } else {
         Err(ExecutableError::Unlike)
+    }
+}
+
+/// Whether a file says that it has compressed code, where its instructions lie in half-words.
+fn is_marked(file: &[u8], unit: CodeUnit) -> bool
+    ensures { result ≡ true → unit ≡ CodeUnit.HalfWord → e_flags file.now % 2 ≡ 1 }
+{
+    match unit {
+        CodeUnit::Word => true,
+        CodeUnit::HalfWord => has_compressed_code(file),
     }
 }
 

@@ -1,7 +1,9 @@
 //! The bytes of an executable (System V generic ABI).
 
 use crate::accepting::rights_of;
+use crate::units::unit_of;
 use rrs_asm::{Label, Section, SectionKind};
+use rrs_elf::CodeUnit;
 use std::alloc::{AllocError, Global};
 
 /// The distance of pages: a segment's bytes and its addresses are the same distance after one.
@@ -15,6 +17,8 @@ const PROGRAM_HEADER_SIZE: u32 = 32;
 /// The parts of a file, each without those before it.
 #[derive(Drop)]
 struct Parts {
+    /// What the file's header says of its code.
+    flags: u32,
     /// The program headers.
     segments: Vec<u8>,
     /// What stands after the program headers: the bytes of the sections, and then the tables.
@@ -83,6 +87,7 @@ fn push_name(strings: &mut Vec<u8>, name: &[u8]) -> Result<u32, AllocError> {
 /// The executable of these sections with this entry.
 pub fn write_file(alloc: Global, sections: &[Section], entry: u32) -> Result<Vec<u8>, AllocError> {
     let mut parts = Parts {
+        flags: flags_of(unit_of(sections)),
         segments: Vec::new(alloc),
         contents: Vec::new(alloc),
         start: start_of(sections),
@@ -94,6 +99,14 @@ pub fn write_file(alloc: Global, sections: &[Section], entry: u32) -> Result<Vec
     let mut file = Vec::new(alloc);
     push_parts(&mut file, &parts, entry, sections.len())?;
     Ok(file)
+}
+
+/// What the file's header says of code that lies in such units: `EF_RISCV_RVC` of half-words.
+fn flags_of(unit: CodeUnit) -> u32 {
+    match unit {
+        CodeUnit::Word => 0,
+        CodeUnit::HalfWord => 1,
+    }
 }
 
 /// Where the contents of a file begin: after the program headers of sections that have bytes.
@@ -132,7 +145,7 @@ fn push_parts(
     sections: usize,
 ) -> Result<(), AllocError> {
     let segments = half_of(parts.segments.len() / 32);
-    push_header(file, entry, parts.here(), segments, sections)?;
+    push_header(file, entry, parts, segments, sections)?;
     file.extend_from_slice(&parts.segments)?;
     file.extend_from_slice(&parts.contents)?;
     Ok(file.extend_from_slice(&parts.headers)?)
@@ -142,13 +155,13 @@ fn push_parts(
 fn push_header(
     file: &mut Vec<u8>,
     entry: u32,
-    headers_at: u32,
+    parts: &Parts,
     segments: u16,
     sections: usize,
 ) -> Result<(), AllocError> {
     file.extend_from_slice(&[0x7f, b'E', b'L', b'F', 1, 1, 1, 0, 0, 0, 0, 0, 0, 0, 0, 0])?;
     push_halves(file, &[2, 243])?;
-    push_words(file, &[1, entry, HEADER_SIZE, headers_at, 0])?;
+    push_words(file, &[1, entry, HEADER_SIZE, parts.here(), parts.flags])?;
     let names = half_of(sections.saturating_add(2));
     push_halves(
         file,

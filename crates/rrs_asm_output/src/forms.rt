@@ -55,12 +55,16 @@ pub enum Form {
     Reserved,
     /// Two registers and an address in a register.
     Atomic,
+    /// Two registers and a number.
+    RegistersAndNumber,
+    /// A register, and an address that is a number after a register.
+    Place,
     /// None.
     Alone,
 }
 
 /// The instructions and pseudo-instructions, by their forms.
-pub static NAMES: [(&[u8], Form); 28] = [
+pub static NAMES: [(&[u8], Form); 39] = [
     (
         b"add sub sll slt sltu xor srl sra or and mul mulh mulhsu mulhu div divu rem remu sgt \
             sgtu",
@@ -84,9 +88,6 @@ pub static NAMES: [(&[u8], Form); 28] = [
     (b"ecall ebreak", Form::Alone),
     (b"fence", Form::Fence),
     (b"nop ret unimp", Form::Alone),
-    (b"mret wfi fence.i", Form::Alone),
-    (b"csrrw csrrs csrrc", Form::Csr),
-    (b"csrrwi csrrsi csrrci", Form::CsrImmediate),
     (b"csrw csrs csrc", Form::CsrWrite),
     (b"csrwi csrsi csrci", Form::CsrWriteImmediate),
     (b"csrr", Form::CsrRead),
@@ -94,22 +95,72 @@ pub static NAMES: [(&[u8], Form); 28] = [
         b"rdcycle rdtime rdinstret rdcycleh rdtimeh rdinstreth",
         Form::Counter,
     ),
+    // The layers, as docs/check --write writes them.
+    (b"csrrw csrrs csrrc", Form::Csr),
+    (b"csrrwi csrrsi csrrci", Form::CsrImmediate),
+    (b"mret wfi fence.i", Form::Alone),
     (b"lr.w lr.w.aq lr.w.rl lr.w.aqrl", Form::Reserved),
     (
-        b"sc.w amoswap.w amoadd.w amoxor.w amoand.w amoor.w amomin.w amomax.w amominu.w \
-            amomaxu.w \
+        b"sc.w amoswap.w amoadd.w amoxor.w amoand.w amoor.w amomin.w amomax.w amominu.w amomaxu.w \
             sc.w.aq amoswap.w.aq amoadd.w.aq amoxor.w.aq amoand.w.aq amoor.w.aq amomin.w.aq \
-            amomax.w.aq amominu.w.aq amomaxu.w.aq \
-            sc.w.rl amoswap.w.rl amoadd.w.rl amoxor.w.rl amoand.w.rl amoor.w.rl amomin.w.rl \
-            amomax.w.rl amominu.w.rl amomaxu.w.rl \
-            sc.w.aqrl amoswap.w.aqrl amoadd.w.aqrl amoxor.w.aqrl amoand.w.aqrl amoor.w.aqrl \
-            amomin.w.aqrl amomax.w.aqrl amominu.w.aqrl amomaxu.w.aqrl",
+            amomax.w.aq amominu.w.aq amomaxu.w.aq sc.w.rl amoswap.w.rl amoadd.w.rl amoxor.w.rl \
+            amoand.w.rl amoor.w.rl amomin.w.rl amomax.w.rl amominu.w.rl amomaxu.w.rl sc.w.aqrl \
+            amoswap.w.aqrl amoadd.w.aqrl amoxor.w.aqrl amoand.w.aqrl amoor.w.aqrl amomin.w.aqrl \
+            amomax.w.aqrl amominu.w.aqrl amomaxu.w.aqrl",
         Form::Atomic,
     ),
+    (
+        b"sh1add sh2add sh3add andn orn xnor max maxu min minu rol ror bclr bext binv bset",
+        Form::Registers,
+    ),
+    (b"clz ctz cpop sext.b sext.h zext.h orc.b rev8", Form::Copy),
+    (b"rori bclri bexti binvi bseti", Form::Shift),
+    // The compressed ones.
+    (b"c.sub c.xor c.or c.and c.mv c.add", Form::Copy),
+    (
+        b"c.addi c.li c.andi c.lui c.slli c.srli c.srai c.addi16sp",
+        Form::Number,
+    ),
+    (b"c.addi4spn", Form::RegistersAndNumber),
+    (b"c.lw c.sw c.lwsp c.swsp", Form::Place),
+    (b"c.beqz c.bnez", Form::ZeroBranch),
+    (b"c.j c.jal", Form::Jump),
+    (b"c.jr c.jalr", Form::Register),
+    (b"c.nop c.ebreak", Form::Alone),
+];
+
+/// The numbers that compressed instructions take.
+static SHORT_RANGES: [(&[u8], &str); 9] = [
+    (b"c.addi c.li c.andi", " takes -32 to 31"),
+    (b"c.slli c.srli c.srai", " takes 1 to 31"),
+    (b"c.lui", " takes 1 to 31 and 0xfffe0 to 0xfffff"),
+    (
+        b"c.addi16sp",
+        " takes multiples of 16 from -512 to 496, and not 0",
+    ),
+    (b"c.addi4spn", " takes multiples of 4 from 4 to 1020"),
+    (b"c.lw c.sw", " takes multiples of 4 from 0 to 124"),
+    (b"c.lwsp c.swsp", " takes multiples of 4 from 0 to 252"),
+    (b"c.j c.jal", " reaches 2048 bytes back and 2046 forward"),
+    (b"c.beqz c.bnez", " reaches 256 bytes back and 254 forward"),
+];
+
+/// The registers that compressed instructions take, where that is not each.
+static SHORT_REGISTERS: [(&[u8], &str); 7] = [
+    (
+        b"c.lw c.sw c.srli c.srai c.andi c.sub c.xor c.or c.and c.beqz c.bnez",
+        " takes x8 to x15, which are s0, s1 and a0 to a5",
+    ),
+    (b"c.addi4spn", " takes x8 to x15, and then sp"),
+    (b"c.addi16sp", " takes sp"),
+    (b"c.lwsp", " takes no x0, and then sp"),
+    (b"c.swsp", " takes a register, and then sp"),
+    (b"c.jr c.jalr c.mv c.add", " takes no x0 there"),
+    (b"c.lui", " takes no sp"),
 ];
 
 /// An instruction that takes a number, and the one that takes a register in its place.
-pub static PAIRS: [(&[u8], &str); 10] = [
+pub static PAIRS: [(&[u8], &str); 15] = [
     (b"addi", "add"),
     (b"slti", "slt"),
     (b"sltiu", "sltu"),
@@ -119,6 +170,11 @@ pub static PAIRS: [(&[u8], &str); 10] = [
     (b"slli", "sll"),
     (b"srli", "srl"),
     (b"srai", "sra"),
+    (b"rori", "ror"),
+    (b"bclri", "bclr"),
+    (b"bexti", "bext"),
+    (b"binvi", "binv"),
+    (b"bseti", "bset"),
     (b"li", "mv"),
 ];
 
@@ -247,12 +303,17 @@ fn operands_of(form: Form) -> &'static str {
         Form::Counter => " rd",
         Form::Reserved => " rd, (rs1)",
         Form::Atomic => " rd, rs2, (rs1)",
+        Form::RegistersAndNumber => " rd, sp, number",
+        Form::Place => " rd, offset(rs1)",
         Form::Alone => "",
     }
 }
 
 /// The range of the number that an instruction or a directive takes.
 pub fn range_of(name: &[u8]) -> &'static str {
+    if let Some(range) = beside(&SHORT_RANGES, name) {
+        return range;
+    }
     match form_of(name) {
         Some(Form::Immediate) => " takes -2048 to 2047; li puts any number into a register",
         Some(Form::Shift) => " takes 0 to 31",
@@ -268,6 +329,11 @@ pub fn range_of(name: &[u8]) -> &'static str {
         Some(Form::Number) => " takes -2147483648 to 4294967295",
         _ => beside(&RANGES, name).unwrap_or(""),
     }
+}
+
+/// The registers that a compressed instruction takes.
+pub fn registers_of(name: &[u8]) -> &'static str {
+    beside(&SHORT_REGISTERS, name).unwrap_or("")
 }
 
 /// The instruction that takes a register where one takes a number.

@@ -16,6 +16,7 @@ mod gnu;
 mod hints;
 mod listing;
 mod mistakes;
+mod units;
 mod words;
 
 pub use entries::entry_of;

@@ -7,5 +7,5 @@ pub returns : goal.returns
 returns g c =
     on-ok c.place.result c.place.ensures.placed (λ adds. λ name named.
     Grows-laid c.args.line name c.args.statement c.args.self.now
-    (record { name = c.args.self.now.name; kind = c.args.self.now.kind; address = c.args.self.now.address; alignment = c.args.self.now.alignment; made = c.place.new.self; before = c.args.self.now.before })
+    (record { name = c.args.self.now.name; kind = c.args.self.now.kind; address = c.args.self.now.address; alignment = c.args.self.now.alignment; takes_compressed = _; made = c.place.new.self; before = c.args.self.now.before })
     named refl refl adds c.place.ensures.labels)
