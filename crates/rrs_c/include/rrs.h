@@ -188,7 +188,7 @@ rrs_difference rrs_compare(const rrs_retired *model, const rrs_retired *core, ui
 uint32_t rrs_cause(const rrs_fault *fault, uint32_t pc, uint32_t word);
 
 /* The rows of the table, as rrs_decode numbers them, and behind them the instructions above it: those
- * on CSRs, mret, wfi and fence.i, and extension A. */
+ * on CSRs, mret, wfi and fence.i, extension A, and Zba, Zbb and Zbs. */
 enum rrs_row {
     RRS_ROW_ILLEGAL = 0,
     RRS_ROW_ADD = 1,
@@ -258,20 +258,49 @@ enum rrs_row {
     RRS_ROW_AMOMIN_W = 65,
     RRS_ROW_AMOMAX_W = 66,
     RRS_ROW_AMOMINU_W = 67,
-    RRS_ROW_AMOMAXU_W = 68
+    RRS_ROW_AMOMAXU_W = 68,
+    RRS_ROW_SH1ADD = 69,
+    RRS_ROW_SH2ADD = 70,
+    RRS_ROW_SH3ADD = 71,
+    RRS_ROW_ANDN = 72,
+    RRS_ROW_ORN = 73,
+    RRS_ROW_XNOR = 74,
+    RRS_ROW_CLZ = 75,
+    RRS_ROW_CTZ = 76,
+    RRS_ROW_CPOP = 77,
+    RRS_ROW_MAX = 78,
+    RRS_ROW_MAXU = 79,
+    RRS_ROW_MIN = 80,
+    RRS_ROW_MINU = 81,
+    RRS_ROW_SEXT_B = 82,
+    RRS_ROW_SEXT_H = 83,
+    RRS_ROW_ZEXT_H = 84,
+    RRS_ROW_ROL = 85,
+    RRS_ROW_ROR = 86,
+    RRS_ROW_RORI = 87,
+    RRS_ROW_ORC_B = 88,
+    RRS_ROW_REV8 = 89,
+    RRS_ROW_BCLR = 90,
+    RRS_ROW_BCLRI = 91,
+    RRS_ROW_BEXT = 92,
+    RRS_ROW_BEXTI = 93,
+    RRS_ROW_BINV = 94,
+    RRS_ROW_BINVI = 95,
+    RRS_ROW_BSET = 96,
+    RRS_ROW_BSETI = 97
 };
 
 /* An instruction. A field that its format does not have is 0. The format of fence, ecall and ebreak
  * is I: the imm of ecall is 0 and of ebreak 1, and fence has any rd, rs1 and imm. Above the table the
  * imm of an instruction on a CSR is the number of the CSR, 0 to 4095, and its rs1 may be a number; and
- * the imm of one of extension A is 2 for aq and 1 for rl. */
+ * the imm of one of extension A is 2 for aq and 1 for rl. Of Zba, Zbb and Zbs an amount is shamt. */
 typedef struct rrs_instruction {
     uint32_t row;   /* One of enum rrs_row: its number in the table, 1 (add) to 48 (ebreak), a number
-                     * from 49 (csrrw) to 68 (amomaxu.w) above it, or 0 for a word that is none. */
+                     * from 49 (csrrw) to 97 (bseti) above it, or 0 for a word that is none. */
     uint32_t rd;    /* The register that is written, by the format. */
     uint32_t rs1;   /* The first register that is read. */
     uint32_t rs2;   /* The second register that is read. */
-    uint32_t shamt; /* The amount of slli, srli and srai. */
+    uint32_t shamt; /* The amount of slli, srli and srai, and of rori, bclri, bexti, binvi and bseti. */
     int32_t imm;    /* The immediate: of branches and jal in bytes, of lui and auipc with its 12 low
                      * bits 0. */
 } rrs_instruction;
@@ -288,6 +317,15 @@ rrs_instruction rrs_decode(uint32_t word);
  * 0 for an illegal instruction. An instruction above the table, as csrrw and lr.w, has its text too.
  * What follows the 0 in the buffer is left as it was. */
 size_t rrs_disassemble(uint32_t word, uint32_t pc, char *text, size_t size);
+
+/* Writes the text of what the hart of a profile executes of the four bytes at the address `pc`, the
+ * lowest first in `word`, as rrs_disassemble does. With RRS_HART_C that is the text of the half-word
+ * in the low bits, as "c.addi x1, -3", where the lowest two are not 11. */
+size_t rrs_disassemble_hart(uint32_t word, uint32_t pc, uint32_t profile, char *text, size_t size);
+
+/* The word of 32 bits that a compressed instruction stands for, and 0 for a half-word that is none.
+ * The two differ in the next pc and in the link. No higher bit of `half` is looked at. */
+uint32_t rrs_expand(uint32_t half);
 
 /* Room for every name below, with the 0 that ends it. */
 #define RRS_NAME_SIZE 20
@@ -361,6 +399,64 @@ rrs_fault rrs_step_noted(rrs_hart *hart, uint32_t *words, size_t count, uint32_t
 void rrs_undo(rrs_hart *hart, uint32_t *words, size_t count, uint32_t base,
               const rrs_change *change);
 
+/* What a hart has beside the 48 rows of the table: the bits of a profile. No other bit is looked
+ * at. */
+enum rrs_hart_layer {
+    RRS_HART_A = 1,          /* Extension A: lr.w, sc.w and the AMOs. */
+    RRS_HART_ZIFENCEI = 2,   /* fence.i, which does nothing: each fetch reads what was stored. */
+    RRS_HART_MISALIGNED = 4, /* Loads and stores at misaligned addresses are carried out. */
+    RRS_HART_C = 8,          /* Extension C: instructions of 16 bits, at even addresses. */
+    RRS_HART_ZBA = 32,       /* Zba: sums of shifted numbers. */
+    RRS_HART_ZBB = 64,       /* Zbb: operations on bits and bytes. */
+    RRS_HART_ZBS = 128       /* Zbs: operations on one bit. */
+};
+
+/* The address that a hart has reserved by lr.w. {0} is none. */
+typedef struct rrs_reservation {
+    uint32_t reserved; /* 1 where an address is reserved, else 0. Any other number is as 0. */
+    uint32_t address;  /* That address, in bytes, and 0 where none is reserved. */
+} rrs_reservation;
+
+/* Do what rrs_step and rrs_run do, for a hart that has the layers of `profile`, the sum of some
+ * bits of enum rrs_hart_layer. With 0 it is the hart of rrs_step. An instruction of a layer that it
+ * does not have is RRS_ILLEGAL_INSTRUCTION, whose `word` is the 16 bits of a short one.
+ * - *reservation goes from one call to the next. lr.w reserves its address. sc.w stores and gives 0
+ *   where its address is reserved, and else stores nothing and gives 1. Each sc.w takes the
+ *   reservation away, also one that raises an exception. Nothing else changes it.
+ * - The address of lr.w, sc.w and an AMO is a multiple of 4, or it is RRS_MISALIGNED. An AMO that
+ *   is refused is RRS_STORE_FAULT.
+ * - With RRS_HART_MISALIGNED a load or a store whose bytes are among the words is carried out
+ *   wherever they lie. One that is refused is RRS_LOAD_FAULT or RRS_STORE_FAULT, and stores none.
+ * - With RRS_HART_C the pc is a multiple of 2, and an odd one is RRS_MISALIGNED. A jump links the
+ *   address behind its own bytes.
+ * rrs_cause knows no layer: of RRS_MISALIGNED it gives 0 for lr.w, sc.w, an AMO and a short one.
+ * A run keeps no decoded words. */
+rrs_fault rrs_step_hart(rrs_hart *hart, uint32_t *words, size_t count, uint32_t base,
+                        uint32_t profile, rrs_reservation *reservation);
+rrs_end rrs_run_hart(rrs_hart *hart, uint32_t *words, size_t count, uint32_t base,
+                     uint32_t profile, rrs_reservation *reservation, uint64_t limit);
+
+/* Does what rrs_step_hart does, and says in *retired what it retired, under the number `order`, for
+ * rrs_compare. A short instruction has its 16 bits as `insn`, and the registers of the instruction
+ * that it stands for. An AMO is one record: it has both masks, the word that it read and the one
+ * that it stored. A misaligned load or store is one access of all its bytes. */
+rrs_fault rrs_step_hart_rvfi(rrs_hart *hart, uint32_t *words, size_t count, uint32_t base,
+                             uint32_t profile, rrs_reservation *reservation, uint64_t order,
+                             rrs_retired *retired);
+
+/* What a hart with machine mode has beside RV32IM: the bits of the profile in rrs_csrs. No other
+ * bit is looked at. */
+enum rrs_machine_layer {
+    RRS_MACHINE_A = 1,          /* Extension A. */
+    RRS_MACHINE_USER_MODE = 2,  /* User mode. */
+    RRS_MACHINE_C = 4,          /* Extension C: instructions of 16 bits, at even addresses. */
+    RRS_MACHINE_MISALIGNED = 8, /* Loads and stores at misaligned addresses are carried out. */
+    RRS_MACHINE_NO_FENCE_I = 16, /* It has no fence.i. */
+    RRS_MACHINE_ZBA = 32,        /* Zba, Zbb and Zbs, as in enum rrs_hart_layer. */
+    RRS_MACHINE_ZBB = 64,
+    RRS_MACHINE_ZBS = 128
+};
+
 /* The CSRs of a hart that has machine mode, with more by its profile: RV32IM with Zicsr, Zifencei and
  * Zicntr, by the privileged specification 1.12. docs/MACHINE.md of the kit has the table of the CSRs.
  * {0}, which rrs_csrs_reset gives too, is a hart with machine mode alone at reset; one with more has
@@ -380,8 +476,8 @@ typedef struct rrs_csrs {
     uint64_t minstret;      /* The instructions that retired. */
     uint32_t trapped;       /* 1 where the latest step took a trap, else 0. No CSR: the next
                              * instruction is the first of a handler. Any other number is as 0. */
-    uint32_t profile;       /* What the hart has, no CSR: bit 0 is extension A, and bit 1 user mode.
-                             * No call changes it. */
+    uint32_t profile;       /* What the hart has, no CSR: the sum of some bits of enum
+                             * rrs_machine_layer. No call changes it. */
     uint32_t user;          /* 1 in user mode, any other number in machine mode. No CSR. Without user
                              * mode it is machine mode, whatever stands here. */
     uint32_t mcounteren;    /* CY, TM and IR, bits 0 to 2, show the counters to user mode. */
@@ -513,7 +609,9 @@ uint32_t rrs_board_waits_for_input(const rrs_board *board);
  * accepted exactly where it is an executable for RV32IM that is linked to fixed addresses, and else
  * refused for the first of these that holds. The header is checked first, for 1 to 15, then one
  * segment after another, each for 16 to 20, and then the entry, for 21 and 22; each of the three in
- * this order. A segment is compared with those before it. */
+ * this order. A segment is compared with those before it. An executable with compressed code, by
+ * e_flags, is accepted where the profile of the hart has extension C. rrs_elf_segment and
+ * rrs_elf_function_at read one with or without such code. */
 enum rrs_elf_refusal {
     RRS_ELF_OK = 0,
     RRS_ELF_NOT_ELF = 1,               /* It does not begin with 0x7f and "ELF". */
@@ -525,7 +623,7 @@ enum rrs_elf_refusal {
     RRS_ELF_NOT_EXECUTABLE = 7,        /* e_type is this number, and not 2. */
     RRS_ELF_MACHINE = 8,               /* e_machine is this number, and not 243. */
     RRS_ELF_VERSION = 9,               /* e_version is this number, and not 1. */
-    RRS_ELF_COMPRESSED_CODE = 10,      /* e_flags has RVC. */
+    RRS_ELF_COMPRESSED_CODE = 10,      /* e_flags has RVC, and the hart has no extension C. */
     RRS_ELF_FLOATING_POINT = 11,       /* e_flags has a floating-point ABI. */
     RRS_ELF_EMBEDDED = 12,             /* e_flags has RVE. */
     RRS_ELF_PROGRAM_HEADER_SIZE = 13,  /* e_phentsize is this number, and not 32. */
@@ -536,7 +634,8 @@ enum rrs_elf_refusal {
     RRS_ELF_SEGMENT_SIZES = 18,        /* p_filesz of this segment is above p_memsz. */
     RRS_ELF_SEGMENT_PAST_LAST_ADDRESS = 19, /* This segment ends past the last address. */
     RRS_ELF_SEGMENTS_OVERLAP = 20,     /* Two segments, of these numbers, share an address. */
-    RRS_ELF_ENTRY_MISALIGNED = 21,     /* e_entry is this number, no multiple of 4. */
+    RRS_ELF_ENTRY_MISALIGNED = 21,     /* e_entry is this number, no multiple of 4, or, of a hart
+                                        * with extension C, odd. */
     RRS_ELF_ENTRY_OUTSIDE = 22,        /* e_entry is this number, in no segment. */
     RRS_ELF_NOT_IN_WORDS = 31          /* Of a load: this address is not in the words. */
 };
@@ -575,8 +674,12 @@ typedef struct rrs_location {
     size_t length;     /* How many bytes its name has. */
 } rrs_location;
 
-/* What the `size` bytes at `file` are. */
+/* What the `size` bytes at `file` are, for a hart without extension C, as that of rrs_step. */
 rrs_elf rrs_elf_parse(const uint8_t *file, size_t size);
+
+/* The same for the hart of rrs_step_hart that has this profile: with RRS_HART_C a file is accepted
+ * that has compressed code. No other bit is looked at. */
+rrs_elf rrs_elf_parse_hart(const uint8_t *file, size_t size, uint32_t profile);
 
 /* The segment of this number, if the file is an executable that has it and it is loaded. */
 rrs_segment rrs_elf_segment(const uint8_t *file, size_t size, uint32_t index);
@@ -587,10 +690,15 @@ rrs_segment rrs_elf_segment(const uint8_t *file, size_t size, uint32_t index);
 rrs_loaded rrs_elf_load(const uint8_t *file, size_t size, uint32_t *words, size_t count,
                         uint32_t base);
 
+/* The same for the hart of rrs_step_hart that has this profile, whose files are those that
+ * rrs_elf_parse_hart accepts. */
+rrs_loaded rrs_elf_load_hart(const uint8_t *file, size_t size, uint32_t *words, size_t count,
+                             uint32_t base, uint32_t profile);
+
 /* Loads an executable into the words, which are the RAM of a board, as rrs_elf_load does, but each
  * segment at its physical address, and puts the hart at the entry. That the segments lie apart, and
- * before the last address, is asked of their physical addresses. Where not all is loaded the board
- * stays as it is. */
+ * before the last address, is asked of their physical addresses. It may have compressed code where
+ * the profile of the board has RRS_MACHINE_C. Where not all is loaded the board stays as it is. */
 rrs_loaded rrs_board_load(rrs_board *board, const uint8_t *file, size_t size, uint32_t *words,
                           size_t count);
 
@@ -743,6 +851,9 @@ RRS_ASSERT(change_value, offsetof(rrs_change, value) == 12);
 RRS_ASSERT(change_address, offsetof(rrs_change, address) == 16);
 RRS_ASSERT(change_size, offsetof(rrs_change, size) == 20);
 RRS_ASSERT(change_bytes, offsetof(rrs_change, bytes) == 24);
+RRS_ASSERT(size_of_reservation, sizeof(rrs_reservation) == 8);
+RRS_ASSERT(reservation_reserved, offsetof(rrs_reservation, reserved) == 0);
+RRS_ASSERT(reservation_address, offsetof(rrs_reservation, address) == 4);
 RRS_ASSERT(size_of_csrs, sizeof(rrs_csrs) == 72);
 RRS_ASSERT(csrs_mstatus, offsetof(rrs_csrs, mstatus) == 0);
 RRS_ASSERT(csrs_mie, offsetof(rrs_csrs, mie) == 4);

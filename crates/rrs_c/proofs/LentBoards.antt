@@ -1,13 +1,16 @@
 -- Accesses of a board's memory over words that are lent: they are those of the words and the
 -- devices, they leave the words lent, and a device that none of them notes is as it was.
-use Rattle.std.proofs.Common.{◌≡◌, ℕ, ◌%◌, ◌<◌, ◌≤◌, nat_lt, Bool, true, false, List, [], ◌∷◌, length, Option, Some, None, refl, sym, subst, ap, ◌∙◌, arith}
+use Rattle.std.proofs.Common.{◌≡◌, ℕ, ◌%◌, ◌==◌, ◌<◌, ◌≤◌, nat_lt, if◌then◌else◌, Bool, true, false, List, [], ◌∷◌, length, Option, Some, None, refl, sym, subst, ap, ◌∙◌, arith}
 use Rattle.std.proofs.lemmas.Bool.Decides.{nat_tests}
 use Rattle.std.proofs.lemmas.Bool.{OnTrue_at, OnTrue_from, OnFalse_at, OnFalse_from, cond_both}
 use Rattle.rrs_memory.specs.declared.MemAccessSize.{MemAccessSize}
 use Rattle.rrs_memory.specs.AccessLists.{Access, Read, Write, Makes, MakesExactly}
-use Rattle.rrs_memory.specs.Bytes.{width, all_writable, store}
+use Rattle.rrs_memory.specs.Bytes.{ByteMap, width, little_endian, all_writable, store}
 use Rattle.rrs_memory.specs.declared.memories.slice.SliceMemory.{SliceMemory}
 use Rattle.rrs_memory.specs.SliceBytes.{SliceWrites, bytes_from}
+use Rattle.rrs_words.specs.declared.csrs.HartProfile.{HartProfile}
+use Rattle.rrs_hart.specs.Halves.{upper_reads}
+use Rattle.rrs_hart.specs.Harts.{fetch_reads_in}
 use Rattle.rrs_machine.specs.declared.csrs.CsrFile.{CsrFile}
 use Rattle.rrs_machine.specs.declared.machine.MachineAnswer.{MachineAnswer}
 use Rattle.rrs_machine.specs.declared.machine.MachineAnswer.TheVariants.{Retired, Waiting, Raised, Interrupted}
@@ -25,7 +28,7 @@ use Rattle.rrs_c.specs.LentBoards.{MemoryReads, MemoryWrites, seen_ram, AreSettl
 
 -- ---- the words stay lent
 
-made_lent : (accesses : List Access) (old new : LentMemory) → Makes MemoryReads MemoryWrites accesses old new
+pub made_lent : (accesses : List Access) (old new : LentMemory) → Makes MemoryReads MemoryWrites accesses old new
     → new.words.ghost_name ≡ old.words.ghost_name
 made_lent [] old new made = ap (λ m. m.words.ghost_name) made
 made_lent (Read a size answer ∷ accesses) old new (mid, did, made) = made_lent accesses mid new made ∙ did.lent
@@ -34,6 +37,32 @@ made_lent (Write a size value answer ∷ accesses) old new (mid, did, made) = ma
 pub still_lent : (IsMeant : List Access → Type 0) (old new : LentMemory) → MakesExactly MemoryReads MemoryWrites IsMeant old new
     → new.words.ghost_name ≡ old.words.ghost_name
 still_lent IsMeant old new exactly = made_lent exactly.accesses old new exactly.made
+
+-- ---- a fetch leaves the words as they were
+
+abbrev AreReads : List Access → Type 0
+AreReads [] = Unit {0}
+AreReads (Read a size answer ∷ xs) = AreReads xs
+AreReads (Write a size value answer ∷ xs) = ⊥
+
+reads_keep : (xs : List Access) (old new : LentMemory) → AreReads xs → Makes MemoryReads MemoryWrites xs old new → new.words.now ≡ old.words.now
+reads_keep [] old new reads made = ap (λ (m : LentMemory). m.words.now) made
+reads_keep (Read a size answer ∷ xs) old new reads (mid, did, rest) = reads_keep xs mid new reads rest ∙ did.did.words_kept
+reads_keep (Write a size value answer ∷ xs) old new reads made = absurd reads
+
+reads_if : (b : Bool) (xs ys : List Access) → AreReads xs → AreReads ys → AreReads (if b then xs else ys)
+reads_if true xs ys p q = p
+reads_if false xs ys p q = q
+
+upper : (bytes : ByteMap) (pc : ℕ) (o : Option ℕ) → AreReads (upper_reads bytes pc o)
+upper bytes pc None = tt
+upper bytes pc (Some low) = reads_if (low % 4 == 3) _ [] tt tt
+
+pub fetch_keeps : (p : HartProfile) (bytes : ByteMap) (pc : ℕ) (old new : LentMemory)
+    → Makes MemoryReads MemoryWrites (fetch_reads_in p bytes pc) old new → new.words.now ≡ old.words.now
+fetch_keeps p bytes pc old new made =
+    reads_keep (fetch_reads_in p bytes pc) old new
+    (reads_if p.compressed _ _ (reads_if (pc % 2 == 0) _ [] (upper bytes pc (little_endian bytes pc 2)) tt) (reads_if (pc % 4 == 0) _ [] tt tt)) made
 
 -- ---- they are accesses of the words and the devices
 

@@ -1,5 +1,6 @@
 -- Lemmas of the exports.
 mod Carrying
+mod Expanding
 mod Jumping
 mod Logged
 mod Naming

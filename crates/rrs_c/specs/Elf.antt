@@ -3,15 +3,19 @@ use Rattle.std.specs.Prelude.{◌≡◌, ℕ, ◌+◌, ◌<◌, Bool, false, if�
 use Rattle.rrs_lib.specs.Bytes.{ByteMap}
 use Rattle.rrs_lib.specs.SliceBytes.{bytes_from, lies_from}
 use Rattle.rrs_elf.specs.Headers.{e_entry, e_phnum, p_vaddr, p_memsz, p_offset, p_filesz, p_flags, segment_start}
+use Rattle.rrs_elf.specs.declared.code_units.CodeUnit.{CodeUnit}
+use Rattle.rrs_elf.specs.declared.code_units.CodeUnit.TheVariants.{Word, HalfWord}
 use Rattle.rrs_elf.specs.declared.program_headers.Addresses.{Addresses}
-use Rattle.rrs_elf.specs.Executables.{IsExecutable, IsExecutableAt, IsLoaded}
+use Rattle.rrs_elf.specs.declared.program_headers.Addresses.TheVariants.{Virtual}
+use Rattle.rrs_elf.specs.Executables.{IsExecutableIn, IsLoaded}
 use Rattle.rrs_elf.specs.Loading.{Stands, loaded_size}
-use Rattle.rrs_elf.specs.Refusals.{first_refusal, checks_at}
+use Rattle.rrs_elf.specs.Refusals.{first_refusal, checks_in}
 use Rattle.rrs_elf.specs.SymbolTables.{symbol_table, symbol_checks, name_start, strings_end, IsName}
 use Rattle.rrs_elf.specs.Symbols.{Finds}
 use Rattle.rrs_elf.specs.declared.locations.Location.{Location}
 use Rattle.rrs_elf.specs.declared.errors.ElfError.{ElfError}
 use Rattle.rrs_elf.specs.declared.errors.ElfError.TheVariants as ElfError
+use Rattle.rrs_words.specs.declared.csrs.HartProfile.{HartProfile}
 use Rattle.rrs_c.specs.declared.elf.RrsElf.{RrsElf}
 use Rattle.rrs_c.specs.declared.elf.RrsSegment.{RrsSegment}
 use Rattle.rrs_c.specs.declared.elf.RrsLoaded.{RrsLoaded}
@@ -19,6 +23,18 @@ use Rattle.rrs_c.specs.declared.elf.RrsLocation.{RrsLocation}
 use Rattle.rrs_c.specs.Buffers.{with_text}
 
 -- ---- what a file is
+
+-- what the instructions of a hart lie in
+abbrev pub unit_for : HartProfile → CodeUnit
+unit_for p = if p.compressed then HalfWord else Word
+
+-- an executable for a hart, at its virtual addresses
+abbrev pub IsExecutableFor : HartProfile → List ℕ → Type 0
+IsExecutableFor p file = IsExecutableIn (unit_for p) Virtual file
+
+-- an executable that may have compressed code: one for some hart
+abbrev pub IsForSomeHart : List ℕ → Type 0
+IsForSomeHart file = IsExecutableIn HalfWord Virtual file
 
 -- an executable, with its entry and the number of its segments
 abbrev pub accepted_elf : List ℕ → RrsElf
@@ -88,10 +104,10 @@ loaded_segment file i = record {
 -- segment i of an executable, if it is loaded
 pub data SegmentIn (file : List ℕ) (i : ℕ) (r : RrsSegment) : Type 0 where
   IsThere :
-      IsExecutable file → IsLoaded file i → r ≡ loaded_segment file i
+      IsForSomeHart file → IsLoaded file i → r ≡ loaded_segment file i
       → SegmentIn file i r
   IsNone :
-      (IsExecutable file → IsLoaded file i → ⊥) → r ≡ no_segment
+      (IsForSomeHart file → IsLoaded file i → ⊥) → r ≡ no_segment
       → SegmentIn file i r
 
 -- ---- a load
@@ -108,34 +124,35 @@ pub record StopsIn (at : Addresses) (file : List ℕ) (old new : ByteMap) (writa
   pub not_writable : writable address ≡ false
   pub stands : Stands at file old new writable n k
 
--- An executable is loaded into words from a base on, its segments at these of their addresses.
-pub data LoadsElf (at : Addresses) (file old new : List ℕ) (base : ℕ) (r : RrsLoaded)
-    : Type 0 where
+-- An executable for a machine whose instructions lie in such units is loaded into words from a base
+-- on, its segments at these of their addresses.
+pub data LoadsElf (unit : CodeUnit) (at : Addresses) (file old new : List ℕ) (base : ℕ)
+    (r : RrsLoaded) : Type 0 where
   -- each segment stands there
   IsWhole :
-      IsExecutableAt at file
+      IsExecutableIn unit at file
       → Stands at file (bytes_from base old) (bytes_from base new) (lies_from base old)
       (e_phnum file) 0
       → r ≡ record { refusal = 0; address = 0 }
-      → LoadsElf at file old new base r
+      → LoadsElf unit at file old new base r
   -- an address is not in the words: refusal 31
   IsStopped :
-      IsExecutableAt at file
+      IsExecutableIn unit at file
       → StopsIn at file (bytes_from base old) (bytes_from base new) (lies_from base old) r.address
       → r.refusal ≡ 31
-      → LoadsElf at file old new base r
+      → LoadsElf unit at file old new base r
   -- the file is refused
   IsRefused : (error : ElfError)
-      → first_refusal (checks_at at file) ≡ Err error → new ≡ old
+      → first_refusal (checks_in unit at file) ≡ Err error → new ≡ old
       → r ≡ record { refusal = (refused_elf error).refusal; address = 0 }
-      → LoadsElf at file old new base r
+      → LoadsElf unit at file old new base r
 
 -- ---- a function
 
 -- why no function is found at an address: the file is no executable, it has no symbol table or one
 -- that can't be read, or no function or label is there
 pub data FindsNone (file : List ℕ) (address : ℕ) : Type 0 where
-  IsNoExecutable : (IsExecutable file → ⊥) → FindsNone file address
+  IsNoExecutable : (IsForSomeHart file → ⊥) → FindsNone file address
   IsUnreadable : (error : ElfError)
       → first_refusal (symbol_checks file) ≡ Err error → FindsNone file address
   HasNoSymbols : symbol_table file ≡ None → FindsNone file address
@@ -144,7 +161,7 @@ pub data FindsNone (file : List ℕ) (address : ℕ) : Type 0 where
 
 -- what is found at an address, and its name
 pub record Locates (file : List ℕ) (address : ℕ) (at : Location) (name : List ℕ) : Type 0 where
-  pub executable : IsExecutable file
+  pub executable : IsForSomeHart file
   pub table : ℕ
   pub table_is : symbol_table file ≡ Some table
   pub finds : Finds file table address (Some at)

@@ -19,6 +19,7 @@ pub mod Harts
 pub mod Listing
 pub mod Records
 pub mod Buffers
+pub mod Shorts
 pub mod Asking
 pub mod Completing
 pub mod Comparing
@@ -27,6 +28,7 @@ pub mod Names
 pub mod Jumps
 pub mod Elf
 pub mod Machines
+pub mod Profiled
 pub mod Undoing
 pub mod Boards
 pub mod LentBoards

@@ -3,10 +3,13 @@ use Rattle.std.specs.Prelude.{◌≡◌, ℕ, ◌%◌, pos, unwrap_or}
 use Rattle.rrs_lib.specs.Encodings.{Fields}
 use Rattle.rrs_lib.specs.Table.{Row, table}
 use Rattle.rrs_lib.specs.Operands.{rd_of, rs1_of, rs2_of, immediate_of, shift_amount_of}
+use Rattle.rrs_words.specs.declared.bits.BitOperand.{BitOperand}
+use Rattle.rrs_words.specs.declared.bits.BitOperand.TheVariants.{Register, Amount}
+use Rattle.rrs_words.specs.BitInstructions.{bit_table}
 use Rattle.rrs_words.specs.declared.layers.LayerInstruction.{LayerInstruction}
-use Rattle.rrs_words.specs.declared.layers.LayerInstruction.TheVariants.{System, Atomic}
+use Rattle.rrs_words.specs.declared.layers.LayerInstruction.TheVariants.{System, Atomic, Bits}
 use Rattle.rrs_words.specs.SystemInstructions.{csr_number}
-use Rattle.rrs_words.specs.Layers.{IsOfLayer, system_number, atomic_number}
+use Rattle.rrs_words.specs.Layers.{IsOfLayer, system_number, atomic_number, bit_number}
 use Rattle.rrs_c.specs.declared.instruction.RrsInstruction.{RrsInstruction}
 
 -- the row is listed by its number, and each field is 0 where the format does not have it
@@ -20,6 +23,15 @@ pub record Lists (row : Row) (f : Fields) (i : RrsInstruction) : Type 0 where
 
 abbrev pub no_instruction : RrsInstruction
 no_instruction = record { row = 0; rd = 0; rs1 = 0; rs2 = 0; shamt = 0; imm = pos 0 }
+
+-- what stands in the place of rs2, as the number of a register and as a shift amount
+abbrev pub register_in : BitOperand → ℕ → ℕ
+register_in Register n = n
+register_in _ n = 0
+
+abbrev pub amount_in : BitOperand → ℕ → ℕ
+amount_in Amount n = n
+amount_in _ n = 0
 
 -- An instruction of a layer is listed by its number, which follows those of the rows. Its immediate is
 -- the number of the CSR, or, of extension A, 2 for aq and 1 for rl.
@@ -39,6 +51,14 @@ layer_listed (Atomic i) = record {
   rs2 = i.fields.rs2;
   shamt = 0;
   imm = pos (i.fields.funct7 % 4);
+}
+layer_listed (Bits i) = record {
+  row = bit_number i.row;
+  rd = i.fields.rd;
+  rs1 = i.fields.rs1;
+  rs2 = register_in (bit_table i.row).operand i.fields.rs2;
+  shamt = amount_in (bit_table i.row).operand i.fields.rs2;
+  imm = pos 0;
 }
 
 -- A word that is no row of the table is listed as the instruction of a layer that it is, and else as

@@ -32,9 +32,22 @@ use Rattle.rrs_c.specs.Records.{retired_in, IsRecord}
 
 -- ---- the machine
 
--- bit 0 of a profile is extension A, and bit 1 user mode
+-- bit 0 of a profile is extension A, bit 1 user mode, bit 2 the compressed instructions, bit 3
+-- misaligned loads and stores, bit 4 says that there is no fence.i, and bits 5 to 7 are Zba, Zbb and
+-- Zbs; no other bit is looked at
 abbrev pub profile_in : ℕ → Profile
-profile_in bits = record { atomics = bit bits 0 == 1; user_mode = bit bits 1 == 1 }
+profile_in bits = record {
+  hart = record {
+    atomics = bit bits 0 == 1;
+    fence_i = bit bits 4 == 0;
+    misaligned = bit bits 3 == 1;
+    compressed = bit bits 2 == 1;
+    zba = bit bits 5 == 1;
+    zbb = bit bits 6 == 1;
+    zbs = bit bits 7 == 1;
+  };
+  user_mode = bit bits 1 == 1;
+}
 
 abbrev pub mode_in : ℕ → Mode
 mode_in user = if user == 1 then User else Machine

@@ -7,8 +7,10 @@ use Rattle.rrs_lib.specs.Table.{Row, table}
 use Rattle.rrs_words.specs.declared.atomics.AtomicRow.{AtomicRow}
 use Rattle.rrs_words.specs.declared.instructions.SystemRow.{SystemRow}
 use Rattle.rrs_words.specs.AtomicInstructions.{atomic_table}
+use Rattle.rrs_words.specs.declared.bits.BitRow.{BitRow}
+use Rattle.rrs_words.specs.BitInstructions.{bit_table}
 use Rattle.rrs_words.specs.SystemInstructions.{system_table}
-use Rattle.rrs_words.specs.Layers.{system_number, atomic_number}
+use Rattle.rrs_words.specs.Layers.{system_number, atomic_number, bit_number}
 use Rattle.rrs_c.specs.Buffers.{with_text}
 
 -- a name is put at the front of a buffer, with a 0 after it, where it has room for both, and its
@@ -24,8 +26,9 @@ pub record NamesRow (number : ℕ) (name : Option (List ℕ)) : Type 0 where
       → name ≡ Some (system_table row).name
   pub of_atomic : (row : AtomicRow) → number ≡ atomic_number row
       → name ≡ Some (atomic_table row).name
+  pub of_bits : (row : BitRow) → number ≡ bit_number row → name ≡ Some (bit_table row).name
   pub zero : number ≡ 0 → name ≡ None
-  pub above : 68 < number → name ≡ None
+  pub above : 97 < number → name ≡ None
 
 -- the name of a row is put into a buffer
 pub record PutsRowName (number : ℕ) (old new : List ℕ) (told : ℕ) : Type 0 where

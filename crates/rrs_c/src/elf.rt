@@ -4,17 +4,18 @@
 ghost use Rattle.std.specs.Prelude.{◌≡◌, ◌↔◌, ◌≤◌, Err, OnOk, IfErr, MatchOption};
 ghost use Rattle.rrs_lib.specs.SliceBytes.{StaysLent, slice_bytes, slice_writable};
 ghost use Rattle.rrs_elf.specs.Headers.{e_entry, e_phnum};
-ghost use Rattle.rrs_elf.specs.Executables.{IsExecutable, IsExecutableAt};
+ghost use Rattle.rrs_elf.specs.Executables.{IsExecutableIn};
 ghost use Rattle.rrs_elf.specs.Loading.{Stands};
-ghost use Rattle.rrs_elf.specs.Refusals.{first_refusal, checks};
+ghost use Rattle.rrs_elf.specs.Refusals.{first_refusal, checks_in};
 ghost use Rattle.rrs_elf.specs.declared.errors.ElfError.{ElfError};
 ghost use Rattle.rrs_c.specs.Boards.{with_pc};
-ghost use Rattle.rrs_c.specs.Elf.{accepted_elf, told, refused_elf, SegmentIn, LoadsElf, StopsIn, FindsNone, Locates, FindsFunction, location_of, no_segment};
+ghost use Rattle.rrs_c.specs.Elf.{unit_for, accepted_elf, told, refused_elf, SegmentIn, LoadsElf, StopsIn, FindsNone, Locates, FindsFunction, location_of, no_segment};
 
 use crate::board::RrsBoard;
 use crate::text::put_text;
-use rrs_elf::{Addresses, ElfError, Executable, Location, Refused};
+use rrs_elf::{Addresses, CodeUnit, ElfError, Executable, Location, Refused};
 use rrs_lib::memories::SliceMemory;
+use rrs_words::HartProfile;
 
 /// What a file is: an executable, or why it is refused.
 #[repr(C)]
@@ -129,14 +130,28 @@ fn refusal_of(error: ElfError) -> RrsElf
     }
 }
 
-/// What a file is.
-pub(crate) fn elf_of(file: &[u8]) -> RrsElf
-    ensures executable { (result.refusal ≡ 0) ↔ IsExecutable file.now }
-    ensures accepted { IsExecutable file.now → result ≡ accepted_elf file.now }
-    ensures refused { (error : ElfError) → first_refusal (checks file.now) ≡ Err error
+/// What the instructions of a hart with these layers lie in.
+pub(crate) fn unit_of(layers: HartProfile) -> CodeUnit
+    ensures { result ≡ unit_for layers }
+{
+    if layers.compressed {
+        CodeUnit::HalfWord
+    } else {
+        CodeUnit::Word
+    }
+}
+
+/// What a file is for a machine whose instructions lie in such units.
+pub(crate) fn elf_of(file: &[u8], unit: CodeUnit) -> RrsElf
+    ensures executable { (result.refusal ≡ 0)
+        ↔ IsExecutableIn unit Addresses.Virtual file.now }
+    ensures accepted { IsExecutableIn unit Addresses.Virtual file.now
+        → result ≡ accepted_elf file.now }
+    ensures refused { (error : ElfError)
+        → first_refusal (checks_in unit Addresses.Virtual file.now) ≡ Err error
         → result ≡ refused_elf error }
 {
-    match Executable::parse(file) {
+    match Executable::parse_in(file, Addresses::Virtual, unit) {
         Ok(program) => RrsElf {
             refusal: 0,
             number: 0,
@@ -166,7 +181,7 @@ fn nothing() -> RrsSegment
 pub(crate) fn segment_of(file: &[u8], index: u32) -> RrsSegment
     ensures { SegmentIn file.now index result }
 {
-    let Ok(program) = Executable::parse(file) else {
+    let Ok(program) = Executable::parse_in(file, Addresses::Virtual, CodeUnit::HalfWord) else {
         return nothing();
     };
     if index >= u32::from(program.program_header_count()) {
@@ -185,16 +200,18 @@ pub(crate) fn segment_of(file: &[u8], index: u32) -> RrsSegment
     }
 }
 
-/// Loads an executable into words, its segments at these of their addresses.
+/// Loads an executable for a machine whose instructions lie in such units into words, its segments
+/// at these of their addresses.
 pub(crate) fn load_into(
     file: &[u8],
+    unit: CodeUnit,
     addresses: Addresses,
     words: &mut [u32],
     base: u32,
 ) -> RrsLoaded
-    ensures { LoadsElf addresses file.now words.old words.new base result }
+    ensures { LoadsElf unit addresses file.now words.old words.new base result }
 {
-    let program = match Executable::parse_at(file, addresses) {
+    let program = match Executable::parse_in(file, addresses, unit) {
         Ok(program) => program,
         Err(error) => {
             return RrsLoaded {
@@ -217,11 +234,11 @@ pub(crate) fn load_into(
 }
 
 /// Puts the hart of a board at the entry of an executable of physical addresses.
-pub(crate) fn start_at_entry(board: &mut RrsBoard, file: &[u8])
-    ensures { IsExecutableAt Addresses.Physical file.now
+pub(crate) fn start_at_entry(board: &mut RrsBoard, file: &[u8], unit: CodeUnit)
+    ensures { IsExecutableIn unit Addresses.Physical file.now
         → board.new ≡ with_pc (e_entry file.now) board.old }
 {
-    if let Ok(program) = Executable::parse_at(file, Addresses::Physical) {
+    if let Ok(program) = Executable::parse_in(file, Addresses::Physical, unit) {
         board.hart.pc = program.entry();
     }
 }
@@ -247,7 +264,7 @@ fn located(file: &[u8], address: u32) -> Option<(Location, &[u8])>
     ensures { MatchOption result (FindsNone file.now address)
         (λ found. Locates file.now address found.0 found.1.now) }
 {
-    let Ok(program) = Executable::parse(file) else {
+    let Ok(program) = Executable::parse_in(file, Addresses::Virtual, CodeUnit::HalfWord) else {
         return None;
     };
     let symbols = match program.symbols() {

@@ -4,13 +4,17 @@ ghost use Rattle.std.specs.Prelude.{◌≡◌, ◌<◌, pos};
 ghost use Rattle.rrs_lib.specs.Encodings.{HasRegisters};
 ghost use Rattle.rrs_lib.specs.Instructions.{row_of, fields_of};
 ghost use Rattle.rrs_lib.specs.Encodings.{I, R, IsInRange};
-ghost use Rattle.rrs_words.specs.declared.layers.LayerInstruction.TheVariants.{System, Atomic};
-ghost use Rattle.rrs_c.specs.Listing.{Lists, ListsLayer, layer_listed, no_instruction};
+ghost use Rattle.rrs_words.specs.declared.layers.LayerInstruction.TheVariants.{System, Atomic, Bits};
+ghost use Rattle.rrs_words.specs.BitInstructions.{bit_table};
+ghost use Rattle.rrs_c.specs.Listing.{Lists, ListsLayer, amount_in, layer_listed, no_instruction, register_in};
 
 use rrs_lib::instruction::Instruction;
-use rrs_words::{AtomicInstruction, LayerInstruction, SystemInstruction, decode_layer};
+use rrs_words::{
+    AtomicInstruction, BitInstruction, BitOperand, LayerInstruction, SystemInstruction,
+    decode_layer,
+};
 
-/// An instruction: the number of its row, 1 to 48, or that of an instruction of a layer, 49 to 68,
+/// An instruction: the number of its row, 1 to 48, or that of an instruction of a layer, 49 to 97,
 /// and its fields. A field that its format does not have is 0.
 #[repr(C)]
 #[derive(Clone, Copy)]
@@ -90,6 +94,37 @@ fn listed_atomic(instruction: &AtomicInstruction) -> RrsInstruction
     }
 }
 
+/// The number of a register and the shift amount in the place of rs2, or 0.
+fn second_of(instruction: &BitInstruction) -> (u32, u32)
+    requires { IsInRange (R instruction.now.fields) }
+    ensures register { result.0
+        ≡ register_in (bit_table instruction.now.row).operand instruction.now.fields.rs2 }
+    ensures amount { result.1
+        ≡ amount_in (bit_table instruction.now.row).operand instruction.now.fields.rs2 }
+{
+    match instruction.row.operand() {
+        BitOperand::Register => (instruction.fields.rs2 as u32, 0),
+        BitOperand::Amount => (0, instruction.fields.rs2 as u32),
+        BitOperand::Fixed(_) => (0, 0),
+    }
+}
+
+/// The number and the fields of an instruction of Zba, Zbb or Zbs.
+fn listed_bits(instruction: &BitInstruction) -> RrsInstruction
+    requires { IsInRange (R instruction.now.fields) }
+    ensures { result ≡ layer_listed (Bits instruction.now) }
+{
+    let (rs2, shamt) = second_of(instruction);
+    RrsInstruction {
+        row: instruction.row.number(),
+        rd: instruction.fields.rd as u32,
+        rs1: instruction.fields.rs1 as u32,
+        rs2,
+        shamt,
+        imm: 0,
+    }
+}
+
 /// The number and the fields of a word that is no row of the table.
 pub(crate) fn listed_layer(word: u32) -> RrsInstruction
     ensures { ListsLayer word result }
@@ -97,6 +132,7 @@ pub(crate) fn listed_layer(word: u32) -> RrsInstruction
     match decode_layer(word) {
         Some(LayerInstruction::System(instruction)) => listed_system(&instruction),
         Some(LayerInstruction::Atomic(instruction)) => listed_atomic(&instruction),
+        Some(LayerInstruction::Bits(instruction)) => listed_bits(&instruction),
         None => nothing(),
     }
 }

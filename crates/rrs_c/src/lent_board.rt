@@ -3,9 +3,9 @@
 ghost use Rattle.std.specs.Prelude.{◌≡◌, ◌%◌, ◌<◌, ◌≤◌, slice_index};
 ghost use Rattle.rrs_lib.specs.Bytes.{width, little_endian, all_writable};
 ghost use Rattle.rrs_lib.specs.SliceBytes.{bytes_from, lies_from};
-ghost use Rattle.rrs_lib.specs.Steps.{next_word, LastIsRegister};
+ghost use Rattle.rrs_lib.specs.Steps.{LastIsRegister};
 ghost use Rattle.rrs_lib.specs.Accesses.{MakesExactly};
-ghost use Rattle.rrs_machine.specs.MachineSteps.{MachineStep, AccessesOfMachineStep};
+ghost use Rattle.rrs_machine.specs.MachineSteps.{MachineStep, AccessesOfMachineStep, fetched_at};
 ghost use Rattle.rrs_board.specs.Registers.{ram_start};
 ghost use Rattle.rrs_board.specs.Effects.{Tells};
 ghost use Rattle.rrs_c.specs.Boards.{LentRam, board_in_c, devices_in, WritesWords, LentStepped, LentRun};
@@ -19,7 +19,8 @@ use rrs_board::effects::dead_event;
 use rrs_board::memory::RAM_START;
 use rrs_board::runs::takes_trap;
 use rrs_board::{BoardEnd, BoardEvent, BoardStep, Devices};
-use rrs_lib::instruction_executor::InstructionExecutor;
+use rrs_hart::{Encoding, fetch_in};
+use rrs_lib::instruction_executor::{InstructionException, InstructionExecutor};
 use rrs_lib::memories::SliceMemory;
 use rrs_lib::{HartState, MemAccessSize, Memory};
 use rrs_machine::{CsrFile, Inputs, MachineAnswer, step_machine};
@@ -123,21 +124,18 @@ fn step_over<'a>(
     step_machine(&mut executor, csrs, inputs)
 }
 
-/// The word that a hart is about to execute, if there is one. No device hears of it.
-fn next_word<'a>(mem: &mut LentMemory<'a>, hart: &BoardHart) -> Option<u32>
-    ensures word { result ≡ next_word (machine_over hart.now.state hart.now.csrs mem.old).hart }
+/// The instruction that a hart is about to execute, or the exception of its fetch. No device hears
+/// of it.
+fn fetched<'a>(mem: &mut LentMemory<'a>, hart: &BoardHart) -> Result<Encoding, InstructionException>
+    ensures fetched { result ≡ fetched_at (machine_over hart.now.state hart.now.csrs mem.old) }
     ensures words { mem.new.words.now ≡ mem.old.words.now }
     ensures same_words { mem.new.words.ghost_name ≡ mem.old.words.ghost_name }
     ensures devices { mem.new.devices ≡ mem.old.devices }
 {
-    let pc = hart.state.pc;
-    if pc % 4 != 0 {
-        return None;
-    }
     let devices = mem.devices;
-    let word = mem.read_mem(pc, MemAccessSize::Word);
+    let fetched = fetch_in(mem, hart.csrs.profile.hart, hart.state.pc);
     mem.devices = devices;
-    word
+    fetched
 }
 
 /// What the caller is told after a step from this pc, where the devices have this event for him:
@@ -155,8 +153,8 @@ fn told_from<'a>(
 {
     match event {
         None if hart.state.pc == pc => {
-            let word = next_word(mem, hart);
-            dead_event(&hart.csrs, pc, word)
+            let fetched = fetched(mem, hart);
+            dead_event(&hart.csrs, pc, fetched)
         }
         _ => event,
     }

@@ -25,9 +25,12 @@ mod instruction;
 mod jumps;
 mod lent;
 mod lent_board;
+mod lent_hart;
 mod machine;
 mod names;
+mod profiled;
 mod retired;
+mod shorts;
 mod text;
 mod undoing;
 
@@ -49,9 +52,9 @@ ghost use Rattle.rrs_c.specs.Jumps.{StepAtJump, IsOnlyStepAtJump};
 ghost use Rattle.rrs_c.specs.Causes.{IsCode};
 ghost use Rattle.rrs_elf.specs.Headers.{e_entry};
 ghost use Rattle.rrs_elf.specs.Executables.{IsExecutable};
-ghost use Rattle.rrs_elf.specs.Refusals.{first_refusal, checks};
+ghost use Rattle.rrs_elf.specs.Refusals.{first_refusal, checks, checks_in};
 ghost use Rattle.rrs_elf.specs.declared.errors.ElfError.{ElfError};
-ghost use Rattle.rrs_c.specs.Elf.{accepted_elf, refused_elf, SegmentIn, LoadsElf, FindsFunction};
+ghost use Rattle.rrs_c.specs.Elf.{unit_for, IsExecutableFor, accepted_elf, refused_elf, SegmentIn, LoadsElf, FindsFunction};
 ghost use Rattle.rrs_c.specs.Comparing.{first_different, record_fields};
 ghost use Rattle.rrs_words.specs.CsrNumbers.{csr_at, machine_alone};
 ghost use Rattle.rrs_machine.specs.Csrs.{reset_file};
@@ -63,6 +66,7 @@ ghost use Rattle.rrs_board.specs.Registers.{ram_start};
 ghost use Rattle.rrs_board.specs.Effects.{arrived, waits_for_input};
 ghost use Rattle.rrs_c.specs.Boards.{with_pc, uart_in, devices_in, board_in_c, LentRun, event_in, IsBoardEnd, as_number, IsResetInC};
 ghost use Rattle.rrs_c.specs.Machines.{profile_in, csrs_in, machine_in_c, inputs_in, machine_answer, IsOutcome, machine_retired_in, IsMachineRecord, csr_told, csr_to_write, file_after, was_written};
+ghost use Rattle.rrs_c.specs.Profiled.{hart_profile_in};
 ghost use Rattle.rrs_c.specs.Undoing.{change_in, IsChange};
 ghost use Rattle.rrs_lent.specs.Heaps.{IsBack};
 ghost use Rattle.rrs_lent.specs.Rooms.{place_of, room_size};
@@ -73,12 +77,11 @@ ghost use Rattle.rrs_c.specs.Names.{PutsRowName, PutsName, named, fault_names, r
 use access::{RrsAccess, access_or_fault, given_by};
 use board::{RrsBoard, RrsBoardEnd, board_end_of, devices_of, receive, reset_board};
 use cached::run_over_cache;
-use causes::code_of;
 use comparison::{RrsDifference, first_difference};
 use completed::complete_retired;
 use elf::{
     RrsElf, RrsLoaded, RrsLocation, RrsSegment, elf_of, function_of, load_into, segment_of,
-    start_at_entry,
+    start_at_entry, unit_of,
 };
 use hart::{
     RrsEnd, RrsFault, RrsHart, close, end_of_run, end_of_stop, fault_of, fault_of_answer, last_of,
@@ -93,12 +96,14 @@ use lent::{
 use lent_board::{LentMemory, close_board, hart_of_board, run_board};
 use machine::{
     RrsCsr, RrsCsrs, RrsMachineRetired, RrsOutcome, csr_read, csr_write, csrs_of, file_of,
-    inputs_of, machine_written_out, outcome_of,
+    inputs_of, machine_written_out, outcome_of, profile_of,
 };
 use names::{fault_name, field_name, put_name, register_name, row_name};
+use profiled::hart_profile_of;
+pub use profiled::{rrs_run_hart, rrs_step_hart, rrs_step_hart_rvfi};
 use retired::{RrsRetired, refused, written_out};
 use rrs_board::memory::RAM_START;
-use rrs_elf::Addresses;
+use rrs_elf::{Addresses, CodeUnit};
 use rrs_fast::WordTable;
 use rrs_lent::{LentHeap, Room, RrsAssembled, RrsMistake, RrsStatement, RrsSymbol, assemble_lent};
 use rrs_lib::disassembly::Disassembled;
@@ -107,6 +112,7 @@ use rrs_lib::instruction_executor::InstructionException;
 use rrs_lib::memories::SliceMemory;
 use rrs_machine::CsrFile;
 use rrs_trace::{complete_parts, request_parts};
+pub use shorts::{rrs_disassemble_hart, rrs_expand};
 use std::alloc::Allocator;
 use text::{put_layer, put_text};
 use undoing::{RrsChange, change_from, change_of};
@@ -461,16 +467,19 @@ pub extern "C" fn rrs_board_reset(board: &mut RrsBoard, profile: u32, pc: u32)
 
 /// Loads an executable into the words that are the RAM of a board, and puts its hart at the entry:
 /// of each segment, at its physical address, the bytes of the file, and then zeros. It ends at the
-/// first address that is not in RAM. Where not all is loaded the board stays as it is.
+/// first address that is not in RAM. Where not all is loaded the board stays as it is. The profile
+/// of the board says whether the executable may have compressed code.
 #[unsafe(no_mangle)]
 pub extern "C" fn rrs_board_load(board: &mut RrsBoard, file: &[u8], words: &mut [u32]) -> RrsLoaded
-    ensures loaded { LoadsElf Addresses.Physical file.now words.old words.new ram_start result }
+    ensures loaded { LoadsElf (unit_for (profile_in board.old.csrs.profile).hart)
+        Addresses.Physical file.now words.old words.new ram_start result }
     ensures started { result.refusal ≡ 0 → board.new ≡ with_pc (e_entry file.now) board.old }
     ensures kept { 1 ≤ result.refusal → board.new ≡ board.old }
 {
-    let loaded = load_into(file, Addresses::Physical, words, RAM_START);
+    let unit = unit_of(profile_of(board.csrs.profile).hart);
+    let loaded = load_into(file, unit, Addresses::Physical, words, RAM_START);
     if loaded.refusal == 0 {
-        start_at_entry(board, file);
+        start_at_entry(board, file, unit);
     }
     loaded
 }
@@ -609,7 +618,7 @@ pub extern "C" fn rrs_complete_rvfi(
 pub extern "C" fn rrs_cause(fault: &RrsFault, pc: u32, word: u32) -> u32
     ensures { IsCode (exception_of fault.now) pc word result }
 {
-    code_of(fault, pc, word)
+    causes::code_of(fault, pc, word)
 }
 
 /// The first field in which the record of a core differs from that of the kit, and what each has;
@@ -658,8 +667,8 @@ pub extern "C" fn rrs_field_name(field: u32, buffer: &mut [u8]) -> usize
     put_name(field_name(field), buffer)
 }
 
-/// What the bytes of a file are: an executable for this machine in the ELF format, with its entry
-/// and the number of its segments, or the first refusal.
+/// What the bytes of a file are: an executable for this machine in the ELF format, without
+/// compressed code, with its entry and the number of its segments, or the first refusal.
 #[unsafe(no_mangle)]
 pub extern "C" fn rrs_elf_parse(file: &[u8]) -> RrsElf
     ensures executable { (result.refusal ≡ 0) ↔ IsExecutable file.now }
@@ -667,10 +676,26 @@ pub extern "C" fn rrs_elf_parse(file: &[u8]) -> RrsElf
     ensures refused { (error : ElfError) → first_refusal (checks file.now) ≡ Err error
         → result ≡ refused_elf error }
 {
-    elf_of(file)
+    elf_of(file, CodeUnit::Word)
 }
 
-/// The segment of this number of an executable, if it is one that is loaded.
+/// What the bytes of a file are for the hart of a profile, as `rrs_elf_parse` tells it: with
+/// extension C the executable may have compressed code.
+#[unsafe(no_mangle)]
+pub extern "C" fn rrs_elf_parse_hart(file: &[u8], profile: u32) -> RrsElf
+    ensures executable { (result.refusal ≡ 0)
+        ↔ IsExecutableFor (hart_profile_in profile) file.now }
+    ensures accepted { IsExecutableFor (hart_profile_in profile) file.now
+        → result ≡ accepted_elf file.now }
+    ensures refused { (error : ElfError) → first_refusal
+        (checks_in (unit_for (hart_profile_in profile)) Addresses.Virtual file.now) ≡ Err error
+        → result ≡ refused_elf error }
+{
+    elf_of(file, unit_of(hart_profile_of(profile)))
+}
+
+/// The segment of this number of an executable, with or without compressed code, if it is one that
+/// is loaded.
 #[unsafe(no_mangle)]
 pub extern "C" fn rrs_elf_segment(file: &[u8], index: u32) -> RrsSegment
     ensures { SegmentIn file.now index result }
@@ -682,13 +707,29 @@ pub extern "C" fn rrs_elf_segment(file: &[u8], index: u32) -> RrsSegment
 /// bytes of the file, and then zeros. It ends at the first address that is not in the words.
 #[unsafe(no_mangle)]
 pub extern "C" fn rrs_elf_load(file: &[u8], words: &mut [u32], base: u32) -> RrsLoaded
-    ensures { LoadsElf Addresses.Virtual file.now words.old words.new base result }
+    ensures { LoadsElf CodeUnit.Word Addresses.Virtual file.now words.old words.new base result }
 {
-    load_into(file, Addresses::Virtual, words, base)
+    load_into(file, CodeUnit::Word, Addresses::Virtual, words, base)
 }
 
-/// The function that an address lies in, or else the nearest function or label before it, whose
-/// name is written as `rrs_row_name` does.
+/// Loads an executable for the hart of a profile, as `rrs_elf_load` does: with extension C it may
+/// have compressed code.
+#[unsafe(no_mangle)]
+pub extern "C" fn rrs_elf_load_hart(
+    file: &[u8],
+    words: &mut [u32],
+    base: u32,
+    profile: u32,
+) -> RrsLoaded
+    ensures { LoadsElf (unit_for (hart_profile_in profile)) Addresses.Virtual file.now
+        words.old words.new base result }
+{
+    let unit = unit_of(hart_profile_of(profile));
+    load_into(file, unit, Addresses::Virtual, words, base)
+}
+
+/// The function of an executable, with or without compressed code, that an address lies in, or else
+/// the nearest function or label before it, whose name is written as `rrs_row_name` does.
 #[unsafe(no_mangle)]
 pub extern "C" fn rrs_elf_function_at(file: &[u8], address: u32, buffer: &mut [u8]) -> RrsLocation
     ensures { FindsFunction file.now address buffer.old buffer.new result }

@@ -9,6 +9,7 @@ use crate::retired::{RrsRetired, flag, word_and_flag, written_out};
 use rrs_machine::{
     Csr, CsrFile, Exception, Inputs, Interrupt, MachineAnswer, MachineRetired, Mode, Profile,
 };
+use rrs_words::HartProfile;
 use rrs_words::csrs::is_read_only;
 
 /// The CSRs of a hart, owned by the caller. All 0 is a hart with machine mode alone, at reset.
@@ -38,7 +39,8 @@ pub struct RrsCsrs {
     pub minstret: u64,
     /// 1 where the latest step took a trap: the next instruction is the first of a handler.
     pub trapped: u32,
-    /// What the hart has: bit 0 is extension A, and bit 1 user mode. No call changes it.
+    /// What the hart has: bit 0 is extension A, bit 1 user mode, bit 2 the compressed instructions,
+    /// bit 3 misaligned loads and stores, and bit 4 says that it has no `fence.i`. No call changes it.
     pub profile: u32,
     /// 1 where the hart is in user mode, any other in machine mode. Without user mode it is machine
     /// mode, whatever stands here.
@@ -102,13 +104,21 @@ pub struct RrsMachineRetired {
     pub csr_wdata: u32,
 }
 
-/// The profile of two bits.
+/// The profile that eight bits are.
 #[inline]
 pub(crate) fn profile_of(bits: u32) -> Profile
     ensures { result ≡ profile_in bits }
 {
     Profile {
-        atomics: bits % 2 == 1,
+        hart: HartProfile {
+            atomics: bits % 2 == 1,
+            fence_i: bits / 16 % 2 == 0,
+            misaligned: bits / 8 % 2 == 1,
+            compressed: bits / 4 % 2 == 1,
+            zba: bits / 32 % 2 == 1,
+            zbb: bits / 64 % 2 == 1,
+            zbs: bits / 128 % 2 == 1,
+        },
         user_mode: bits / 2 % 2 == 1,
     }
 }
@@ -118,12 +128,14 @@ pub(crate) fn profile_of(bits: u32) -> Profile
 fn profile_bits(profile: Profile) -> u32
     ensures { profile_in result ≡ profile }
 {
-    match (profile.atomics, profile.user_mode) {
-        (false, false) => 0,
-        (true, false) => 1,
-        (false, true) => 2,
-        (true, true) => 3,
-    }
+    flag(profile.hart.atomics)
+        + 2 * flag(profile.user_mode)
+        + 4 * flag(profile.hart.compressed)
+        + 8 * flag(profile.hart.misaligned)
+        + 16 * flag(!profile.hart.fence_i)
+        + 32 * flag(profile.hart.zba)
+        + 64 * flag(profile.hart.zbb)
+        + 128 * flag(profile.hart.zbs)
 }
 
 /// The mode, by whether it is user mode.
@@ -147,7 +159,7 @@ fn user_of(mode: Mode) -> u32
 
 /// The address that is reserved, if one is.
 #[inline]
-fn reservation_of(reserved: u32, address: u32) -> Option<u32>
+pub(crate) fn reservation_of(reserved: u32, address: u32) -> Option<u32>
     ensures { result ≡ reservation_in reserved address }
 {
     if reserved == 1 { Some(address) } else { None }

@@ -6,7 +6,7 @@ ghost use Rattle.rrs_c.specs.Names.{NamesRow, PutsName, bytes_of, named, fault_n
 use crate::text::put_text;
 
 /// The names of the rows and of the instructions of the layers, in the order of their numbers.
-const ROWS: [&str; 68] = [
+const ROWS: [&str; 97] = [
     "add",
     "sub",
     "sll",
@@ -75,6 +75,35 @@ const ROWS: [&str; 68] = [
     "amomax.w",
     "amominu.w",
     "amomaxu.w",
+    "sh1add",
+    "sh2add",
+    "sh3add",
+    "andn",
+    "orn",
+    "xnor",
+    "clz",
+    "ctz",
+    "cpop",
+    "max",
+    "maxu",
+    "min",
+    "minu",
+    "sext.b",
+    "sext.h",
+    "zext.h",
+    "rol",
+    "ror",
+    "rori",
+    "orc.b",
+    "rev8",
+    "bclr",
+    "bclri",
+    "bext",
+    "bexti",
+    "binv",
+    "binvi",
+    "bset",
+    "bseti",
 ];
 
 /// The names of the kinds of exceptions, from 0 on.
@@ -114,7 +143,7 @@ const FIELDS: [&str; 17] = [
 pub(crate) fn row_name(row: u32) -> Option<&'static str>
     ensures { NamesRow row (bytes_of result) }
 {
-    if row == 0 || 68 < row {
+    if row == 0 || 97 < row {
         return None;
     }
     Some(ROWS[row as usize - 1])

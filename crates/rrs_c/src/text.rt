@@ -2,8 +2,9 @@
 
 ghost use Rattle.std.specs.Prelude.{◌≡◌};
 ghost use Rattle.rrs_c.specs.Buffers.{with_text, PutsLayer};
+ghost use Rattle.rrs_c.specs.Shorts.{PutsShort};
 
-use rrs_words::{decode_layer, layer_text};
+use rrs_words::{decode_layer, decode_short, layer_text, short_text};
 
 /// Puts a text at the front of a buffer, and a 0 after it, where there is room for both.
 #[inline]
@@ -24,6 +25,21 @@ pub(crate) fn put_layer(word: u32, buffer: &mut [u8]) -> usize
     match decode_layer(word) {
         Some(instruction) => {
             let text = layer_text(&instruction);
+            put_text(text.as_str().as_bytes(), buffer);
+            text.len()
+        }
+        None => 0,
+    }
+}
+
+/// Puts the text of a half-word that is a compressed instruction at the front of a buffer, and a 0
+/// after it, where there is room for both. Returns its length, and 0 for a half-word that is none.
+pub(crate) fn put_short(half: u16, pc: u32, buffer: &mut [u8]) -> usize
+    ensures { PutsShort half pc buffer.old buffer.new result }
+{
+    match decode_short(half) {
+        Some(short) => {
+            let text = short_text(&short, pc);
             put_text(text.as_str().as_bytes(), buffer);
             text.len()
         }

@@ -2,7 +2,7 @@
 use Rattle.std.proofs.Common.{◌≡◌, ◌∙◌, sym, subst, refl}
 use Rattle.rrs_lib.specs.Accesses.{MakesExactly}
 use Rattle.rrs_machine.specs.MachineSteps.{MachineStep, AccessesOfMachineStep}
-use Rattle.rrs_machine.proofs.TracedSteps.{machine_last}
+use Rattle.rrs_machine.proofs.LastRegister.{machine_last}
 use Rattle.rrs_board.specs.Effects.{inputs_of, Tells}
 use Rattle.rrs_c.specs.declared.lent_board.BoardHart.{BoardHart}
 use Rattle.rrs_c.specs.Boards.{LentRam, LentReads, LentWrites, LentStepped, lent_machine}
