@@ -3,8 +3,7 @@
 use crate::board_debugging::debug_board;
 use rrs_cli::loading::load;
 use rrs_exec::{
-    DECODED_WORDS, Image, LoadedProcess, ProcessMemory, ProtectedMemory, load_process,
-    process_profile, started,
+    DECODED_WORDS, Image, LoadedProcess, ProcessMemory, ProtectedMemory, load_process, started,
 };
 use rrs_fast::{CachedMemory, Ending, OwnCache};
 use rrs_gdb::{Link, LinkError, SessionEnd, SessionState, Settings, serve};
@@ -12,7 +11,7 @@ use rrs_lib::instruction_executor::InstructionExecutor;
 use rrs_lib::{HartState, Memory};
 use rrs_linux::{Heap, OutputRecorder};
 use rrs_run_commands::debugger::Debugger;
-use rrs_run_commands::executables::memory_for;
+use rrs_run_commands::executables::{hart_for, memory_for};
 use rrs_run_commands::execution::{HEAP_END, HEAP_START};
 use rrs_run_commands::files::{Noting, STANDARD_OUTPUT, read_program};
 use rrs_run_commands::options::Task;
@@ -139,8 +138,15 @@ fn debug_executable<'f, 'a, R: Read, W: Write>(
         return Err(out_of_memory());
     };
     let memory = memory_for(program.file, program.request.memory);
-    let profile = process_profile(false);
-    let loaded = load_process(alloc, program.file, &arguments, &variables, memory, profile);
+    state.profile = hart_for(program.file, program.request);
+    let loaded = load_process(
+        alloc,
+        program.file,
+        &arguments,
+        &variables,
+        memory,
+        state.profile,
+    );
     let LoadedProcess { image, memory } = match loaded {
         Ok(process) => process,
         Err(error) => return Err(no_image(path, program.file, error)),

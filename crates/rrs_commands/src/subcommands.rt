@@ -85,8 +85,8 @@ const EXECUTE: Subcommand = Subcommand {
     command: Command {
         name: "rrs exec",
         usage: "rrs exec [--limit STEPS] [--memory BYTES] [--files FOLDER | --files-read-only FOLDER]
-    [--strict-alignment] [--clock fixed] [--random host] [--env NAME=VALUE] .. [--raw]
-    PROGRAM [ARGUMENT] ..",
+    [--march NAME] [--strict-alignment] [--clock fixed] [--random host]
+    [--env NAME=VALUE] .. [--raw] PROGRAM [ARGUMENT] ..",
     },
     summary: "runs a program that makes system calls of Linux",
     help: "Runs PROGRAM, an ELF executable for RV32IMAC, as a process of Linux with these
@@ -97,12 +97,15 @@ call is one, or any number. The program has standard input, output and error. Wi
 --files it also has the files below FOLDER, which is its root and where it is, and
 with --files-read-only it has them and can't change them. A load or a store at a
 misaligned address is carried out, and with --strict-alignment it is a fault. With
---clock fixed its clocks stand at 0, so that each run is the same. Its random bytes
-are the same in each run, and with --random host they are others. --env, which may
-stand 16 times, puts NAME=VALUE in its environment, which is empty else; of one NAME
-the last counts. A fault is told with its pc. Options stand before PROGRAM: the words
-after it are the program's own. With --raw the file's bytes stand at address 0 of 1 MiB
-and sp at its end, and there are no ARGUMENTs, no environment and no files.
+--march the hart has the extensions of NAME and no others, as gcc's -march names them:
+rv32im, rv32ima, rv32imc or rv32imac, and behind it some of _zicsr, _zifencei, _zba,
+_zbb and _zbs. With --clock fixed its clocks stand at 0, so that each run is the same.
+Its random bytes are the same in each run, and with --random host they are others.
+--env, which may stand 16 times, puts NAME=VALUE in its environment, which is empty
+else; of one NAME the last counts. A fault is told with its pc. Options stand before
+PROGRAM: the words after it are the program's own. With --raw the file's bytes stand at
+address 0 of 1 MiB and sp at its end, and there are no ARGUMENTs, no environment and no
+files.
 
 Status: the program's own; 124 at the limit; 125 where it can't be run; 128 and
 the number of a signal for a fault: 132 illegal instruction, 133 breakpoint,
@@ -117,12 +120,13 @@ const TRACE: Subcommand = Subcommand {
     task: Task::Trace,
     command: Command {
         name: "rrs trace",
-        usage: "rrs trace [--limit STEPS] [--memory BYTES] [--clock fixed] [--env NAME=VALUE] ..
-    [--from ADDRESS|SYMBOL] [--to ADDRESS|SYMBOL] [--only FUNCTION] [--steps N-M]
-    [--output FILE] PROGRAM [ARGUMENT] ..
-       rrs trace --board [--limit STEPS] [--memory BYTES] [--input polled|wait] [--raw]
-           [--dtb FILE] [--append TEXT] [--symbols FILE] [--from ADDRESS|SYMBOL]
-           [--to ADDRESS|SYMBOL] [--only FUNCTION] [--steps N-M] [--output FILE] PROGRAM",
+        usage: "rrs trace [--limit STEPS] [--memory BYTES] [--march NAME] [--clock fixed]
+    [--env NAME=VALUE] .. [--from ADDRESS|SYMBOL] [--to ADDRESS|SYMBOL] [--only FUNCTION]
+    [--steps N-M] [--output FILE] PROGRAM [ARGUMENT] ..
+       rrs trace --board [--limit STEPS] [--memory BYTES] [--march NAME]
+           [--input polled|wait] [--raw] [--dtb FILE] [--append TEXT] [--symbols FILE]
+           [--from ADDRESS|SYMBOL] [--to ADDRESS|SYMBOL] [--only FUNCTION] [--steps N-M]
+           [--output FILE] PROGRAM",
     },
     summary: "runs a program as rrs exec does, and writes Spike's commit log",
     help: "Runs PROGRAM as rrs exec does, and writes a line for each step, as Spike's
@@ -150,11 +154,12 @@ const COVER: Subcommand = Subcommand {
     task: Task::Cover,
     command: Command {
         name: "rrs cover",
-        usage: "rrs cover [--limit STEPS] [--memory BYTES] [--clock fixed] [--env NAME=VALUE] ..
-    [--annotate] [--callgrind FILE] [--output FILE] PROGRAM [ARGUMENT] ..
-       rrs cover --board [--limit STEPS] [--memory BYTES] [--input polled|wait] [--raw]
-           [--dtb FILE] [--append TEXT] [--symbols FILE] [--annotate] [--callgrind FILE]
-           [--output FILE] PROGRAM",
+        usage: "rrs cover [--limit STEPS] [--memory BYTES] [--march NAME] [--clock fixed]
+    [--env NAME=VALUE] .. [--annotate] [--callgrind FILE] [--output FILE]
+    PROGRAM [ARGUMENT] ..
+       rrs cover --board [--limit STEPS] [--memory BYTES] [--march NAME]
+           [--input polled|wait] [--raw] [--dtb FILE] [--append TEXT] [--symbols FILE]
+           [--annotate] [--callgrind FILE] [--output FILE] PROGRAM",
     },
     summary: "runs a program as rrs exec does, and says what the run covered",
     help: "Runs PROGRAM as rrs exec does, and writes what the run covered: of each function how
@@ -228,7 +233,7 @@ const LIST: Subcommand = Subcommand {
     },
     summary: "lists the entry, the segments and the symbols of an executable",
     help: "Lists what FILE, an ELF executable for RV32IM, has: the entry, the program headers
-and the symbols, in the columns of readelf -lsW.
+and the symbols, in the columns of readelf -lsW. FILE may have compressed code.
 
 Status: 0; 1 where FILE is no such executable, and where it can't be read; 2 for
 other words.
@@ -241,21 +246,22 @@ const BOARD: Subcommand = Subcommand {
     task: Task::Board,
     command: Command {
         name: "rrs board",
-        usage: "rrs board [--limit STEPS] [--memory BYTES] [--input polled|wait] [--raw]
-    [--dtb FILE] [--append TEXT] PROGRAM",
+        usage: "rrs board [--limit STEPS] [--memory BYTES] [--march NAME] [--input polled|wait]
+    [--raw] [--dtb FILE] [--append TEXT] PROGRAM",
     },
     summary: "runs firmware on a board with machine mode",
-    help: "Runs PROGRAM, an ELF executable for RV32IMA, on a board like QEMU's virt: RAM of
+    help: "Runs PROGRAM, an ELF executable for RV32IMAC, on a board like QEMU's virt: RAM of
 128 MiB (--memory, up to 2G) from 0x80000000 on, a UART 16550 at 0x10000000, whose two
 sides are standard output and standard input, a CLINT at 0x2000000, a finisher at
-0x100000. The hart has machine and user mode, and starts at the entry. It makes at
-most STEPS steps, or any number. Time goes by the instructions that retire, and
-wfi goes forward to the next alarm.
+0x100000. The hart has machine and user mode, and starts at the entry. With --march it
+has the extensions of NAME and no others, as by rrs exec. It makes at most STEPS steps,
+or any number. Time goes by the instructions that retire, and wfi goes forward to the
+next alarm.
 
-With --raw PROGRAM is an image for the start of RAM, as a kernel is. a1 is then the
-address of a device tree, 64 KiB before the end of RAM: FILE of --dtb, or the board's
-own, whose arguments for the kernel are TEXT. An executable has a1 0 without --dtb and
---append.
+With --raw PROGRAM is an image for the start of RAM, as a kernel is, and has compressed
+code by --march alone. a1 is then the address of a device tree, 64 KiB before the end of
+RAM: FILE of --dtb, or the board's own, whose arguments for the kernel are TEXT. An
+executable has a1 0 without --dtb and --append.
 
 Input is read where PROGRAM looks a thousand times in a row and finds none, and at a
 wfi that no alarm can end where IER asks for received data. Each such look waits for
@@ -274,16 +280,16 @@ const DEBUG: Subcommand = Subcommand {
     task: Task::Debug,
     command: Command {
         name: "rrs gdb",
-        usage: "rrs gdb [--memory BYTES] [--input FILE] [--env NAME=VALUE] .. [--raw]
-    PROGRAM [ARGUMENT] ..
-       rrs gdb --board [--limit STEPS] [--memory BYTES] [--input FILE] [--raw]
-           [--dtb FILE] [--append TEXT] PROGRAM",
+        usage: "rrs gdb [--memory BYTES] [--march NAME] [--input FILE] [--env NAME=VALUE] ..
+    [--raw] PROGRAM [ARGUMENT] ..
+       rrs gdb --board [--limit STEPS] [--memory BYTES] [--march NAME] [--input FILE]
+           [--raw] [--dtb FILE] [--append TEXT] PROGRAM",
     },
     summary: "runs a program, or firmware, under gdb",
     help: "Runs PROGRAM as rrs exec does, under gdb, which speaks by standard input and output:
   gdb-multiarch PROGRAM -ex 'target remote | rrs gdb PROGRAM'
 The program's output goes to gdb; its input is FILE, or empty, and its clocks stand at
-0. --env puts NAME=VALUE in its environment, as of rrs exec; a raw program has none. It
+0. --march and --env are as of rrs exec; a raw program has none. It
 can go back, as by reverse-stepi and reverse-continue. monitor help, in gdb, lists what
 can be set.
 

@@ -2,6 +2,8 @@
 use Rattle.std.proofs.Common.{◌≡◌, ℕ, ◌+◌, ◌*◌, ◌<◌, List, [], ◌∷◌, ◌++◌, length, get_or, replicate, count_by, cond, Bool, true, false, subst, ap, sym, ◌∙◌, arith}
 use Rattle.std.proofs.lemmas.List.Sums.{sum_by-append}
 use Rattle.std.proofs.lemmas.List.{get_or-replicate, length-replicate}
+use Rattle.rrs_elf.specs.declared.code_units.CodeUnit.{CodeUnit}
+use Rattle.rrs_elf.specs.Executables.{bytes_of}
 use Rattle.rrs_trace.specs.declared.retired.Retired.{Retired}
 use Rattle.rrs_reports.specs.declared.coverage.Coverage.{Coverage}
 use Rattle.rrs_reports.specs.Coverages.{begins_at, begins_elsewhere, capped, counted, Counts, Covers}
@@ -21,7 +23,7 @@ count_last p rs r =
 pub covers_none : (c : Coverage) (words : ℕ) → c.counts.items ≡ replicate words 0 → c.elsewhere ≡ 0
     → Covers [] c
 covers_none c words zeros none = record {
-  word = λ place below.
+  at = λ place below.
       let many : length c.counts.items ≡ words = ap length zeros ∙ length-replicate words 0 in
       ap (λ xs. get_or xs place 0) zeros ∙ get_or-replicate words place 0 0 (omega (arith, below, many));
   elsewhere = none;
@@ -30,19 +32,20 @@ covers_none c words zeros none = record {
 pub covers_more : (rs : List Retired) (r : Retired) (c d : Coverage)
     → Covers rs c → Counts c r d → Covers (rs ++ r ∷ []) d
 covers_more rs r c d before now = record {
-  word = λ place below.
-      let within : place < length c.counts.items = omega (arith, below, now.words_kept) in
-      let P : ℕ → Type 0 = λ b.
-      get_or d.counts.items place 0 ≡ capped (count_by (begins_at (b + 4 * place)) (rs ++ r ∷ [])) in
-      subst P (sym now.base_kept)
-      (now.word place within
-      ∙ ap (λ n. counted n (begins_at (c.base + 4 * place) r)) (before.word place within)
-      ∙ count_last (begins_at (c.base + 4 * place)) rs r);
+  at = λ place below.
+      let within : place < length c.counts.items = omega (arith, below, now.units_kept) in
+      let P : ℕ → CodeUnit → Type 0 = λ b u.
+      get_or d.counts.items place 0 ≡ capped (count_by (begins_at (b + bytes_of u * place)) (rs ++ r ∷ [])) in
+      let first = c.base + bytes_of c.unit * place in
+      let here : P c.base c.unit =
+      now.at place within ∙ ap (λ n. counted n (begins_at first r)) (before.at place within) ∙ count_last (begins_at first) rs r in
+      subst (λ u. P d.base u) (sym now.unit_kept) (subst (λ b. P b c.unit) (sym now.base_kept) here);
   elsewhere =
-      let Q : ℕ → ℕ → Type 0 = λ b n.
-      d.elsewhere ≡ capped (count_by (begins_elsewhere b n) (rs ++ r ∷ [])) in
-      let here : Q c.base (length c.counts.items) =
-      now.elsewhere ∙ ap (λ n. counted n (begins_elsewhere c.base (length c.counts.items) r)) before.elsewhere
-      ∙ count_last (begins_elsewhere c.base (length c.counts.items)) rs r in
-      subst (λ n. Q d.base n) (sym now.words_kept) (subst (λ b. Q b (length c.counts.items)) (sym now.base_kept) here);
+      let Q : CodeUnit → ℕ → ℕ → Type 0 = λ u b n.
+      d.elsewhere ≡ capped (count_by (begins_elsewhere u b n) (rs ++ r ∷ [])) in
+      let outside = begins_elsewhere c.unit c.base (length c.counts.items) in
+      let here : Q c.unit c.base (length c.counts.items) =
+      now.elsewhere ∙ ap (λ n. counted n (outside r)) before.elsewhere ∙ count_last outside rs r in
+      subst (λ n. Q d.unit d.base n) (sym now.units_kept)
+      (subst (λ u. Q u d.base (length c.counts.items)) (sym now.unit_kept) (subst (λ b. Q c.unit b (length c.counts.items)) (sym now.base_kept) here));
 }

@@ -10,7 +10,7 @@ use Rattle.rrs_linux.specs.declared.Process.{Process}
 use Rattle.rrs_linux.specs.declared.host_writer.HostWriter.{HostWriter}
 use Rattle.rrs_linux.specs.declared.host_side.HostSide.{HostSide}
 use Rattle.rrs_linux.specs.SystemCalls.{Serves}
-use Rattle.rrs_hart.specs.declared.profile.HartProfile.{HartProfile}
+use Rattle.rrs_words.specs.declared.csrs.HartProfile.{HartProfile}
 use Rattle.rrs_hart.specs.Harts.{Hart, hart_with}
 use Rattle.rrs_exec.specs.Processes.{heap_of}
 use Rattle.rrs_exec.specs.Watching.{start_in, WatchesProcess}

@@ -6,7 +6,8 @@ use Rattle.rrs_lib.specs.Bytes.{ByteMap, little_endian}
 use Rattle.rrs_lib.specs.Machine.{State, reg}
 use Rattle.rrs_lib.specs.Accesses.{Access}
 use Rattle.rrs_lib.specs.Steps.{Step, StepAnswer, Misaligned, Unmapped, Illegal, Legal, next_word, LastIsRegister}
-use Rattle.rrs_hart.specs.declared.profile.HartProfile.{HartProfile}
+use Rattle.rrs_elf.specs.Executables.{bytes_of}
+use Rattle.rrs_words.specs.declared.csrs.HartProfile.{HartProfile}
 use Rattle.rrs_hart.specs.Harts.{Hart, HartStep, OfKit, OfLayer, ByBytes, OfHalves, AccessesOfHart}
 use Rattle.rrs_hart.proofs.HartLast.{HartStep-last}
 use Rattle.rrs_hart.proofs.HartFaults.{fault_keeps_bytes}
@@ -15,7 +16,7 @@ use Rattle.rrs_trace.specs.Retired.{last_of, is_fault}
 use Rattle.rrs_trace.specs.HartRecords.{HartRetires}
 use Rattle.rrs_trace.proofs.HartAccesses.{told_of, sources_at, words_at, not_halves}
 use Rattle.rrs_reports.specs.CommitLogs.{ecall}
-use Rattle.rrs_reports.specs.Coverages.{is_step, word_of, Counts, counted, begins_at, begins_elsewhere, has_word}
+use Rattle.rrs_reports.specs.Coverages.{is_step, word_of, Counts, counted, begins_at, begins_elsewhere, has_unit}
 use Rattle.rrs_reports.specs.declared.coverage.Coverage.{Coverage}
 
 -- ---- the register that was written last
@@ -126,14 +127,15 @@ both_false false = refl
 pub counts_none : (c : Coverage) (r : Retired) → is_step r ≡ false → Counts c r c
 counts_none c r none = record {
   base_kept = refl;
-  words_kept = refl;
-  word = λ place below.
-      let address = c.base + 4 * place in
+  unit_kept = refl;
+  units_kept = refl;
+  at = λ place below.
+      let address = c.base + bytes_of c.unit * place in
       let none_begins : begins_at address r ≡ false = ap (λ x. cond (r.pc_rdata == address) x false) none ∙ both_false (r.pc_rdata == address) in
       sym (ap (counted (get_or c.counts.items place 0)) none_begins);
   elsewhere =
-      let has = has_word c.base (length c.counts.items) r.pc_rdata in
-      let none_begins : begins_elsewhere c.base (length c.counts.items) r ≡ false = ap (λ x. cond has false x) none ∙ both_false has in
+      let has = has_unit c.unit c.base (length c.counts.items) r.pc_rdata in
+      let none_begins : begins_elsewhere c.unit c.base (length c.counts.items) r ≡ false = ap (λ x. cond has false x) none ∙ both_false has in
       sym (ap (counted c.elsewhere) none_begins);
 }
 

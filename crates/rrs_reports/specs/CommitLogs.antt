@@ -10,7 +10,7 @@ use Rattle.rrs_fast.specs.declared.serving.Ending.{Ending}
 use Rattle.rrs_linux.specs.declared.Process.{Process}
 use Rattle.rrs_linux.specs.declared.host_writer.HostWriter.{HostWriter}
 use Rattle.rrs_linux.specs.declared.host_side.HostSide.{HostSide}
-use Rattle.rrs_hart.specs.declared.profile.HartProfile.{HartProfile}
+use Rattle.rrs_words.specs.declared.csrs.HartProfile.{HartProfile}
 use Rattle.rrs_reports.specs.Records.{RunsWithRecords}
 use Rattle.rrs_reports.specs.declared.commit_log.CodeRange.{CodeRange}
 use Rattle.rrs_reports.specs.declared.commit_log.StepRange.{StepRange}
@@ -63,7 +63,8 @@ mode_text mode = if mode == 3 then codes "3" else codes "0"
 abbrev pub committed_text : ℕ → ℕ → Retired → List ℕ
 committed_text mode word r =
     codes "core   0: " ++ mode_text mode ++ codes " 0x" ++ hexadecimal 8 r.pc_rdata
-    ++ codes " (0x" ++ hexadecimal (word_digits word) word ++ codes ")" ++ written_text r.rd_addr r.rd_wdata
+    ++ codes " (0x" ++ hexadecimal (word_digits word) word ++ codes ")"
+    ++ written_text r.rd_addr r.rd_wdata
 
 -- and what ends it
 abbrev pub access_text : MemoryAccess → List ℕ

@@ -6,7 +6,7 @@ use Rattle.rrs_linux.specs.declared.Process.{Process}
 use Rattle.rrs_linux.specs.declared.host_writer.HostWriter.{HostWriter}
 use Rattle.rrs_linux.specs.declared.host_side.HostSide.{HostSide}
 use Rattle.rrs_linux.specs.SystemCalls.{Serves}
-use Rattle.rrs_hart.specs.declared.profile.HartProfile.{HartProfile}
+use Rattle.rrs_words.specs.declared.csrs.HartProfile.{HartProfile}
 use Rattle.rrs_hart.specs.Harts.{hart_with}
 use Rattle.rrs_exec.specs.Processes.{unit_of, Executing, heap_of, RunsProcess}
 use Rattle.rrs_exec.specs.Watching.{Shown, start_in}
@@ -18,8 +18,8 @@ keeps records r all = all ≡ records ++ r ∷ []
 abbrev pub wants_all : {R : Type 0} → List R → Bool
 wants_all records = true
 
--- A process is loaded and runs on a hart with a profile for so many steps, and these are the records
--- of its run.
+-- A process is loaded and runs on a hart with a profile for so many steps, and these are the
+-- records of its run.
 pub record RunsWithRecords {R W E : Type 0} (p : HartProfile) (remaining : R → Option (List ℕ))
     (contents : W → Option (List ℕ)) (errors_of : E → Option (List ℕ))
     (file : List ℕ) (arguments variables : List (List ℕ)) (wanted limit : ℕ)

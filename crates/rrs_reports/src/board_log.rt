@@ -178,8 +178,8 @@ pub enum BoardTraceError {
 /// a line for each instruction that retires, and the lines of each exception and interrupt, of the
 /// steps that the window has.
 ///
-/// The clauses: the log has the lines of the steps of the session (`traced`), and where the input is
-/// polled no session ends at a wait for it (`polled`).
+/// The clauses: the log has the lines of the steps of the session (`traced`), and where the input
+/// is polled no session ends at a wait for it (`polled`).
 ///
 /// # Errors
 ///

@@ -6,25 +6,13 @@ ghost use Rattle.rrs_board.specs.Effects.{waits_for_input};
 ghost use Rattle.rrs_reports.specs.Coverages.{CoversBoard};
 
 use crate::code::Code;
-use crate::commit_log::committed_word;
 use crate::profile::Profile;
 use rrs_board::{
     Board, BoardEnd, BoardInput, BoardWatcher, RecordedStep, TerminalError, WatchedRuns,
     run_at_terminal,
 };
-use rrs_trace::Retired;
 use std::alloc::Global;
 use std::io::Write;
-
-/// The word of a step that was committed at an address, where the program went on elsewhere than
-/// behind it, and else 0.
-fn word_left(retired: &Retired, word: u32) -> u32 {
-    if retired.pc_wdata == retired.pc_rdata.wrapping_add(4) {
-        0
-    } else {
-        word
-    }
-}
 
 impl BoardWatcher for Profile<'_, '_> {
     ghost use Rattle.std.specs.Prelude.{true};
@@ -35,14 +23,7 @@ impl BoardWatcher for Profile<'_, '_> {
     ghost wants = { λ profile. true };
 
     fn see_step(&mut self, step: &RecordedStep) {
-        let retired = &step.retired.retired;
-        match committed_word(retired) {
-            Some(word) => {
-                let word = word_left(retired, word);
-                self.count(retired.order, retired.pc_rdata, word);
-            }
-            None => {}
-        }
+        self.count_record(&step.retired.retired);
         if step.retired.cause.is_some() {
             self.calls.interrupt();
         }

@@ -2,6 +2,9 @@
 //! made until it returned.
 
 use crate::code::{Code, entry};
+use rrs_lib::instruction::Instruction;
+use rrs_lib::instruction_formats::{IType, JType};
+use rrs_words::{decode_short, expanded};
 use std::alloc::{AllocError, Global};
 
 /// How a step went on to the next one. A jump to the next instruction is in no special way.
@@ -9,6 +12,8 @@ use std::alloc::{AllocError, Global};
 enum Kind {
     /// By `jal` or `jalr` that writes x1 or x5, the registers for return addresses.
     Call,
+    /// The same by a compressed instruction, which has 2 bytes.
+    ShortCall,
     /// By `jalr` that writes no register and jumps to x1 or x5.
     Return,
     /// In another way.
@@ -66,7 +71,7 @@ struct Before {
 pub struct Calls {
     /// The calls, each pair of an instruction and a function once.
     calls: Vec<Call>,
-    /// Of each word of code 1 and the place of the first call from it, or 0.
+    /// Of each unit of code 1 and the place of the first call from it, or 0.
     first: Vec<u32>,
     /// Of each function how often it was entered; entry 0 is for code of none.
     entries: Vec<u64>,
@@ -80,16 +85,46 @@ pub struct Calls {
     is_short: bool,
 }
 
-/// How the word of a step goes on.
+/// How the instruction of a step goes on, by its bits.
 #[inline(never)]
-fn kind_of(word: u32) -> Kind {
-    let (opcode, rd, rs1) = (word % 128, word / 128 % 32, word / 32768 % 32);
+fn kind_of(bits: u32) -> Kind {
+    if bits % 4 != 3 {
+        return kind_of_half((bits % 65536) as u16);
+    }
+    let (opcode, rd, rs1) = (bits % 128, bits / 128 % 32, bits / 32768 % 32);
     let is_link = rd == 1 || rd == 5;
     match opcode {
         0x6f if is_link => Kind::Call,
         0x67 if is_link => Kind::Call,
         0x67 if rd == 0 && (rs1 == 1 || rs1 == 5) => Kind::Return,
         _ => Kind::Other,
+    }
+}
+
+/// How a compressed instruction goes on, as what it stands for does.
+fn kind_of_half(half: u16) -> Kind {
+    let Some(short) = decode_short(half) else {
+        return Kind::Other;
+    };
+    match expanded(&short) {
+        Instruction::Jal(JType { rd: 1 | 5, .. }) => Kind::ShortCall,
+        Instruction::Jalr(IType { rd: 1 | 5, .. }) => Kind::ShortCall,
+        Instruction::Jalr(
+            IType {
+                rd: 0,
+                rs1: 1 | 5,
+                ..
+            },
+        ) => Kind::Return,
+        _ => Kind::Other,
+    }
+}
+
+/// The address behind the call of a step, to which the function returns.
+fn return_address(before: Before) -> u32 {
+    match before.kind {
+        Kind::ShortCall => before.pc.wrapping_add(2),
+        _ => before.pc.wrapping_add(4),
     }
 }
 
@@ -188,7 +223,7 @@ impl Calls {
         let frame = Frame {
             call,
             callee,
-            return_address: before.pc.wrapping_add(4),
+            return_address: return_address(before),
             start: self.steps,
             is_tail,
         };
@@ -240,23 +275,23 @@ impl Calls {
     }
 
     /// Takes in the step of this number, at an address that a function has, which goes on from the
-    /// step before. The word there may be 0 where the next step is behind it.
+    /// step before. The bits there may be 0 where the next step is behind it.
     #[inline(always)]
-    pub fn add(&mut self, code: &Code<'_>, number: u64, pc: u32, owner: u32, word: u32) {
+    pub fn add(&mut self, code: &Code<'_>, number: u64, pc: u32, owner: u32, bits: u32) {
         if self.before.kind != Kind::Other || self.before.owner != owner {
             self.steps = number;
             self.go_on(code, self.before, pc, owner);
         }
-        let kind = if word == 0 {
+        let kind = if bits == 0 {
             Kind::Other
         } else {
-            kind_of(word)
+            kind_of(bits)
         };
         self.before = Before { pc, owner, kind };
     }
 
-    /// An exception or an interrupt comes after the step before: a call or a return that it makes is
-    /// taken as another jump.
+    /// An exception or an interrupt comes after the step before: a call or a return that it makes
+    /// is taken as another jump.
     pub fn interrupt(&mut self) {
         if self.before.kind != Kind::Start {
             self.before.kind = Kind::Other;
@@ -272,7 +307,7 @@ impl Calls {
                     *count = count.saturating_add(1);
                 }
             }
-            Kind::Call => self.enter(code, before, owner, false),
+            Kind::Call | Kind::ShortCall => self.enter(code, before, owner, false),
             Kind::Return if self.return_to(pc) => {}
             _ if owner == before.owner => {}
             _ if !code.begins_function(pc) && self.resume(owner) => {}

@@ -30,6 +30,8 @@ pub struct Code<'a> {
     firsts: Vec<u32>,
     /// Of each unit 1 and the place of the next of the same function, or 0.
     nexts: Vec<u32>,
+    /// Of each half-word whether it is the upper one of a word; none of words.
+    uppers: Vec<bool>,
 }
 
 /// The entry at a place, or 0 where there is none.
@@ -79,9 +81,11 @@ impl<'a> Code<'a> {
             owners: Vec::new(alloc),
             firsts: Vec::new(alloc),
             nexts: Vec::new(alloc),
+            uppers: Vec::new(alloc),
         };
         code.read(file, program)?;
         code.chain(alloc)?;
+        code.mark_uppers()?;
         Ok(code)
     }
 
@@ -141,6 +145,33 @@ impl<'a> Code<'a> {
         }
     }
 
+    /// Marks the upper half-words, by the instructions of each part one after another.
+    fn mark_uppers(&mut self) -> Result<(), AllocError> {
+        if self.unit == CodeUnit::Word {
+            return Ok(());
+        }
+        self.uppers.resize(self.owners.len(), false)?;
+        for part in &self.parts {
+            let first = self.unit.count(part.address.wrapping_sub(self.base)) as usize;
+            let mut is_upper = false;
+            for index in 0..part.units() {
+                if let Some(upper) = self.uppers.get_mut(first.saturating_add(index as usize)) {
+                    *upper = *upper || is_upper;
+                }
+                is_upper = !is_upper && part.instruction_word(index).is_some();
+            }
+        }
+        Ok(())
+    }
+
+    /// Whether an instruction begins with the unit at an address, as `rrs dis` reads the code.
+    pub(crate) fn begins_instruction(&self, address: u32) -> bool {
+        match self.uppers.get(self.place_of(address)) {
+            Some(upper) => !*upper,
+            None => true,
+        }
+    }
+
     /// 1 and the place of the first unit that belongs to the function of a number and that a part
     /// has, or 0.
     pub(crate) fn first_of(&self, number: u32) -> u32 {
@@ -155,6 +186,11 @@ impl<'a> Code<'a> {
             .base
             .wrapping_add(place.wrapping_mul(self.unit.bytes()));
         Some((address, entry(&self.nexts, place as usize)))
+    }
+
+    /// What the instructions lie in.
+    pub fn unit(&self) -> CodeUnit {
+        self.unit
     }
 
     /// The lowest address of code.
@@ -202,7 +238,7 @@ impl<'a> Code<'a> {
         entry(&self.owners, self.place_of(address))
     }
 
-    /// The same of the word at a place from the lowest address on.
+    /// The same of the unit at a place from the lowest address on.
     #[inline]
     pub(crate) fn owner_at(&self, place: usize) -> u32 {
         entry(&self.owners, place)

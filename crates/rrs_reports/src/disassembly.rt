@@ -69,15 +69,6 @@ fn write_half<W: Write>(out: &mut Pieces<'_, W>, code: &Code<'_>, address: u32, 
     }
 }
 
-/// The word that begins with a unit, or `None` where the unit is an instruction by itself: a
-/// half-word whose low bits are not 11, or one without another half.
-fn word_from(part: &CodePart<'_>, index: u32, half: u16) -> Option<u32> {
-    if part.unit == CodeUnit::HalfWord && half % 4 != 3 {
-        return None;
-    }
-    part.word(index)
-}
-
 /// Writes the line of a symbol, if one names the address.
 fn write_name<W: Write>(out: &mut Pieces<'_, W>, code: &Code<'_>, address: u32) {
     if let Some(name) = code.name_at(address) {
@@ -106,13 +97,13 @@ fn write_part<W: Write>(
             out.column(12, coverage.count(address), "  ");
         }
         out.right(8, hexadecimal_digits(1, address).as_str());
-        let half = part.half(index).unwrap_or(0);
-        if let Some(word) = word_from(part, index, half) {
+        if let Some(word) = part.instruction_word(index) {
             is_second_half = part.unit == CodeUnit::HalfWord;
             out.hexadecimal(":\t", 8, word);
             out.text("          \t");
             write_word(out, code, address, word);
         } else {
+            let half = part.half(index).unwrap_or(0);
             out.hexadecimal(":\t", 4, u32::from(half));
             out.text("                \t");
             write_half(out, code, address, half);
@@ -136,11 +127,12 @@ fn write_title<W: Write>(out: &mut Pieces<'_, W>, code: &Code<'_>, part: &CodePa
 }
 
 /// Writes the disassembly of an executable, as `objdump -d` lays it out: of each part of the file
-/// that has code the symbols, the addresses, the words and the texts. Of compressed code a half-word
-/// whose low bits are not 11 is an instruction, which has 4 digits.
+/// that has code the symbols, the addresses, the words and the texts. Of compressed code a
+/// half-word whose low bits are not 11 is an instruction, which has 4 digits.
 ///
-/// The text of each instruction is proved (`Disassembled`, `short_text`). That the lines are those of the file's code is
-/// tested alone: `examples/reports/check` compares them with those of `objdump -d`.
+/// The text of each instruction is proved (`Disassembled`, `short_text`). That the lines are those
+/// of the file's code is tested alone: `examples/reports/check` compares them with those of
+/// `objdump -d`.
 ///
 /// # Errors
 ///
@@ -149,8 +141,8 @@ pub fn write_disassembly<W: Write>(out: &mut W, path: &str, code: &Code<'_>) -> 
     write_lines(out, path, code, None)
 }
 
-/// Writes the disassembly of an executable as `write_disassembly` does, and before each word how
-/// often it was executed. This is tested alone too.
+/// Writes the disassembly of an executable as `write_disassembly` does, and before each instruction
+/// how often it was executed. This is tested alone too.
 ///
 /// # Errors
 ///

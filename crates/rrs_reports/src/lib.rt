@@ -4,8 +4,8 @@
 //! [Code] is the code of an executable, with its functions and the names of its addresses.
 //! [trace_process] makes a run and writes a line for each instruction, which
 //! `specs/CommitLogs.antt` defines. [cover_process] makes a run and counts its steps, as
-//! `specs/Coverages.antt` says. [trace_board] and [cover_board] do so of a board at a terminal, whose
-//! log `specs/BoardLogs.antt` defines.
+//! `specs/Coverages.antt` says. [trace_board] and [cover_board] do so of a board at a terminal,
+//! whose log `specs/BoardLogs.antt` defines.
 
 #![tactic(auto)]
 

@@ -1,8 +1,8 @@
-//! What a run of an executable covered: how often each word and each function was executed.
+//! What a run of an executable covered: how often each instruction and each function was executed.
 
 ghost use Rattle.std.specs.Prelude.{◌≡◌, ◌≢◌, ℕ, true, false, Some, map, replicate, string_bytes, IfOk, OnErr};
 ghost use Rattle.std.specs.Bool.{OnTrue, OnFalse};
-ghost use Rattle.rrs_hart.specs.declared.profile.HartProfile.{HartProfile as TheProfile};
+ghost use Rattle.rrs_words.specs.declared.csrs.HartProfile.{HartProfile as TheProfile};
 ghost use Rattle.rrs_hart.specs.Harts.{Hart, HartStep};
 ghost use Rattle.rrs_trace.specs.HartRecords.{HartRetires};
 ghost use Rattle.rrs_exec.specs.Protection.{protected_bytes};
@@ -24,12 +24,12 @@ use rrs_trace::{Retired, step_hart_retired};
 use std::alloc::{AllocError, Global};
 use std::io::{Read, Write};
 
-/// A watcher that counts the steps at each word of code, and the calls of its functions.
+/// A watcher that counts the steps at each unit of code, and the calls of its functions.
 #[derive(Drop)]
 pub struct Profile<'a, 'b> {
     /// The code.
     pub code: &'b Code<'a>,
-    /// How often each word was executed.
+    /// How often each unit was executed.
     pub coverage: Coverage,
     /// The calls.
     pub calls: Calls,
@@ -42,13 +42,13 @@ impl<'a, 'b> Profile<'a, 'b> {
     ///
     /// Out of memory.
     pub fn new(alloc: Global, code: &'b Code<'a>) -> Result<Profile<'a, 'b>, AllocError>
-        ensures { IfOk result (λ profile. (words : ℕ)
-            × (profile.coverage.counts.items ≡ replicate words 0)
+        ensures { IfOk result (λ profile. (units : ℕ)
+            × (profile.coverage.counts.items ≡ replicate units 0)
             × (profile.coverage.elsewhere ≡ 0)) }
     {
         Ok(Profile {
             code,
-            coverage: Coverage::new(alloc, code.base(), code.units())?,
+            coverage: Coverage::new(alloc, code.base(), code.unit(), code.units())?,
             calls: Calls::new(alloc, code)?,
         })
     }
@@ -92,10 +92,21 @@ fn word_left(memory: &mut KeptMemory, pc: u32, next: u32) -> u32
     }
 }
 
+/// The bits of an instruction that was committed, where the program went on elsewhere than behind
+/// it, and else 0.
+fn bits_left(retired: &Retired, bits: u32) -> u32 {
+    let size = if bits % 4 == 3 { 4 } else { 2 };
+    if retired.pc_wdata == retired.pc_rdata.wrapping_add(size) {
+        0
+    } else {
+        bits
+    }
+}
+
 impl Profile<'_, '_> {
-    /// Counts the step of this number, which was made at an address where this word is.
+    /// Counts the step of this number, which was made at an address where these bits are.
     #[inline(always)]
-    pub(crate) fn count(&mut self, number: u64, pc: u32, word: u32)
+    fn count(&mut self, number: u64, pc: u32, bits: u32)
         ensures { (r : Retired) → r.pc_rdata ≡ pc → is_step r ≡ true
             → Counts self.old.coverage r self.new.coverage }
     {
@@ -103,15 +114,18 @@ impl Profile<'_, '_> {
             Some(place) => self.code.owner_at(place),
             None => 0,
         };
-        self.calls.add(self.code, number, pc, owner, word);
+        self.calls.add(self.code, number, pc, owner, bits);
     }
 
     /// Counts the step of a record, if it is of one.
-    fn count_record(&mut self, retired: &Retired)
+    pub(crate) fn count_record(&mut self, retired: &Retired)
         ensures { Counts self.old.coverage retired.now self.new.coverage }
     {
         match committed_word(retired) {
-            Some(_) => self.count(retired.order, retired.pc_rdata, 0),
+            Some(bits) => {
+                let bits = bits_left(retired, bits);
+                self.count(retired.order, retired.pc_rdata, bits);
+            }
             None => {}
         }
     }
@@ -153,8 +167,8 @@ impl Watcher for Profile<'_, '_> {
 
     ghost wants = { λ profile. true };
 
-    /// No record is made of a hart that fetches words. The word of a step is read where it jumps, and
-    /// after an exception.
+    /// No record is made of a hart that fetches words. The word of a step is read where it jumps,
+    /// and after an exception.
     #[inline(always)]
     fn watch_step(
         &mut self,
@@ -180,7 +194,7 @@ impl Watcher for Profile<'_, '_> {
 }
 
 /// Runs a file's bytes as [execute_process](rrs_exec::execute_process) does, and gives what the run
-/// covered of its code. A count is the number of steps of the run whose pc a word has.
+/// covered of its code. A count is the number of steps of the run whose pc a unit has.
 ///
 /// # Errors
 ///

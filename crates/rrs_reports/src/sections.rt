@@ -34,6 +34,15 @@ impl CodePart<'_> {
         word_at(self.bytes, index as usize * self.unit.bytes() as usize)
     }
 
+    /// The word that is the instruction at the unit of this number, or `None` where the unit is one
+    /// by itself: a half-word whose low bits are not 11, or one without another half.
+    pub fn instruction_word(&self, index: u32) -> Option<u32> {
+        if self.unit == CodeUnit::HalfWord && self.half(index).unwrap_or(0) % 4 != 3 {
+            return None;
+        }
+        self.word(index)
+    }
+
     /// The half-word that the unit of this number begins with.
     pub fn half(&self, index: u32) -> Option<u16> {
         half_at(self.bytes, index as usize * self.unit.bytes() as usize)

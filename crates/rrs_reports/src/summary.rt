@@ -5,11 +5,11 @@ use crate::pieces::Pieces;
 use crate::profile::Profile;
 use std::io::{self, Write};
 
-/// What a run covered of a function, or of the words that belong to none.
+/// What a run covered of a function, or of the code that belongs to none.
 #[derive(Clone, Copy)]
 pub struct Covered {
-    /// How many words it has.
-    pub words: u64,
+    /// How many instructions it has.
+    pub instructions: u64,
     /// How many of them were executed.
     pub executed: u64,
     /// How many steps were made in it.
@@ -22,7 +22,7 @@ impl Covered {
     /// What was covered of both.
     fn and(self, other: Covered) -> Covered {
         Covered {
-            words: self.words.saturating_add(other.words),
+            instructions: self.instructions.saturating_add(other.instructions),
             executed: self.executed.saturating_add(other.executed),
             steps: self.steps.saturating_add(other.steps),
             entries: self.entries.saturating_add(other.entries),
@@ -31,11 +31,12 @@ impl Covered {
 }
 
 impl Profile<'_, '_> {
-    /// What the run covered of the function of a number: of each word that belongs to it, once. 0
-    /// is for the words that belong to none.
+    /// What the run covered of the function of a number: of each unit that belongs to it, once. 0
+    /// is for the code that belongs to none. An upper half-word is no instruction, unless it was
+    /// executed.
     pub fn covered(&self, number: u32) -> Covered {
         let mut covered = Covered {
-            words: 0,
+            instructions: 0,
             executed: 0,
             steps: 0,
             entries: self.calls.entries(number),
@@ -47,7 +48,7 @@ impl Profile<'_, '_> {
             };
             let steps = self.coverage.count(address);
             covered = covered.and(Covered {
-                words: 1,
+                instructions: u64::from(steps > 0 || self.code.begins_instruction(address)),
                 executed: u64::from(steps > 0),
                 steps,
                 entries: 0,
@@ -68,10 +69,10 @@ impl Profile<'_, '_> {
     }
 }
 
-/// Writes the line of a function, or of the words that belong to none.
+/// Writes the line of a function, or of the code that belongs to none.
 fn write_line<W: Write>(out: &mut Pieces<'_, W>, covered: Covered, name: &[u8]) {
     out.column(8, covered.executed, " ");
-    out.column(8, covered.words, " ");
+    out.column(8, covered.instructions, " ");
     out.column(12, covered.entries, " ");
     out.column(12, covered.steps, " ");
     out.name(" ", name, "\n");
@@ -90,10 +91,11 @@ fn write_functions<W: Write>(out: &mut Pieces<'_, W>, profile: &Profile<'_, '_>,
     }
 }
 
-/// Writes what a run covered: a line for each function, those that ran first, and else in the order of their addresses, with how many of its instructions were executed, how many it has,
-/// how often it was entered, and how many steps were made in it; a line for the code that belongs
-/// to no function, if there is some; one for the steps outside of the code, if some were made; and
-/// the sums.
+/// Writes what a run covered: a line for each function, those that ran first, and else in the order
+/// of their addresses, with how many of its instructions were executed, how many it has, how often
+/// it was entered, and how many steps were made in it; a line for the code that belongs to no
+/// function, if there is some; one for the steps outside of the code, if some were made; and the
+/// sums.
 ///
 /// # Errors
 ///
@@ -104,11 +106,11 @@ pub fn write_summary<W: Write>(out: &mut W, profile: &Profile<'_, '_>) -> io::Re
     write_functions(&mut out, profile, true);
     write_functions(&mut out, profile, false);
     let rest = profile.covered(0);
-    if rest.words > 0 {
+    if rest.instructions > 0 {
         write_line(&mut out, rest, b"(no function)");
     }
     let outside = Covered {
-        words: 0,
+        instructions: 0,
         executed: 0,
         steps: profile.coverage.elsewhere,
         entries: 0,

@@ -5,6 +5,7 @@ pub use Rattle.rrs_cli.specs.Faults
 pub mod Quiet
 pub mod Execution
 pub mod Words
+pub mod Architectures
 pub mod Options
 pub mod Requests
 pub mod WrittenFiles

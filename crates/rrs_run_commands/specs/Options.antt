@@ -5,7 +5,7 @@ use Rattle.rrs_run_commands.specs.declared.options.Task.TheVariants.{Run, Execut
 use Rattle.rrs_run_commands.specs.declared.options.Switch.{Switch}
 use Rattle.rrs_run_commands.specs.declared.options.Switch.TheVariants.{Quiet, Raw, Strict, Annotate, Gnu, Listed, Rars, Anywhere}
 use Rattle.rrs_run_commands.specs.declared.options.Setting.{Setting}
-use Rattle.rrs_run_commands.specs.declared.options.Setting.TheVariants.{Limit, Memory, From, To, Only, Steps, Output, Callgrind, Input, Clock, Random, Variable, Files, ReadFiles, Tree, Append, Symbols, Text, Data, Executable}
+use Rattle.rrs_run_commands.specs.declared.options.Setting.TheVariants.{Limit, Memory, From, To, Only, Steps, Output, Callgrind, Input, Clock, Random, March, Variable, Files, ReadFiles, Tree, Append, Symbols, Text, Data, Executable}
 
 -- ---- options without a value
 
@@ -65,6 +65,7 @@ setting_word Callgrind = codes "--callgrind"
 setting_word Input = codes "--input"
 setting_word Clock = codes "--clock"
 setting_word Random = codes "--random"
+setting_word March = codes "--march"
 setting_word Variable = codes "--env"
 setting_word Files = codes "--files"
 setting_word ReadFiles = codes "--files-read-only"
@@ -85,6 +86,11 @@ has_setting Execute Clock = true
 has_setting Trace Clock = true
 has_setting Cover Clock = true
 has_setting Execute Random = true
+has_setting Execute March = true
+has_setting Trace March = true
+has_setting Cover March = true
+has_setting Debug March = true
+has_setting task March = is_on_board task
 has_setting Execute Variable = true
 has_setting Trace Variable = true
 has_setting Cover Variable = true

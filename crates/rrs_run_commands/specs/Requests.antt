@@ -2,13 +2,14 @@
 --
 --   rrs run [--quiet] FILE LIMIT
 --   rrs exec [--limit STEPS] [--memory BYTES] [--files FOLDER | --files-read-only FOLDER]
---       [--strict-alignment] [--clock fixed] [--random host] [--env NAME=VALUE] .. [--raw]
+--       [--march NAME] [--strict-alignment] [--clock fixed] [--random host] [--env NAME=VALUE] ..
+--       [--raw] PROGRAM [ARGUMENT] ..
+--   rrs trace [--limit STEPS] [--memory BYTES] [--march NAME] [--clock fixed]
+--       [--env NAME=VALUE] .. [--from ADDRESS|SYMBOL] [--to ADDRESS|SYMBOL] [--only FUNCTION]
+--       [--steps N-M] [--output FILE] PROGRAM [ARGUMENT] ..
+--   rrs cover [--limit STEPS] [--memory BYTES] [--march NAME] [--clock fixed]
+--       [--env NAME=VALUE] .. [--annotate] [--callgrind FILE] [--output FILE]
 --       PROGRAM [ARGUMENT] ..
---   rrs trace [--limit STEPS] [--memory BYTES] [--clock fixed] [--env NAME=VALUE] ..
---       [--from ADDRESS|SYMBOL] [--to ADDRESS|SYMBOL] [--only FUNCTION] [--steps N-M]
---       [--output FILE] PROGRAM [ARGUMENT] ..
---   rrs cover [--limit STEPS] [--memory BYTES] [--clock fixed] [--env NAME=VALUE] .. [--annotate]
---       [--callgrind FILE] [--output FILE] PROGRAM [ARGUMENT] ..
 --   rrs as [--gnu | --list] [-o OUTPUT] [--rars] [-Ttext ADDRESS] [-Tdata ADDRESS]
 --       [--incbin-anywhere] FILE
 --   rrs dis FILE
@@ -28,15 +29,17 @@
 -- ARGUMENTs are its own. --env may stand 16 times.
 use Rattle.std.specs.Prelude.{ℕ, ◌<◌, ◌≤◌, ◌≡◌, ◌≢◌, ◌⊎◌, List, [], ◌∷◌, ◌++◌, length, take, Bool, true, false, not, Option, Some, None, IsSome, Result, Ok, Err, map, string_bytes, option_map, codes}
 use Rattle.rrs_cli.specs.Limits.{limit_in}
+use Rattle.rrs_run_commands.specs.Architectures.{IsMarch}
 use Rattle.rrs_run_commands.specs.Words.{IsNumber, IsSize, IsAddress, IsStepRange, IsDashed, IsVariable, HasValue, ends_options, name_in, value_in}
 use Rattle.rrs_run_commands.specs.Options.{has_setting, has_switch, most_memory, most_variables, setting_word, switch_word, usual_limit}
+use Rattle.rrs_words.specs.declared.csrs.HartProfile.{HartProfile}
 use Rattle.rrs_reports.specs.declared.commit_log.StepRange.{StepRange}
 use Rattle.rrs_run_commands.specs.declared.options.Task.{Task}
 use Rattle.rrs_run_commands.specs.declared.options.Task.TheVariants.{Run, Execute, Trace, Cover, Debug, DebugBoard}
 use Rattle.rrs_run_commands.specs.declared.options.Switch.{Switch}
 use Rattle.rrs_run_commands.specs.declared.options.Switch.TheVariants.{Quiet, Raw, Strict, Annotate, Gnu, Listed, Rars, Anywhere}
 use Rattle.rrs_run_commands.specs.declared.options.Setting.{Setting}
-use Rattle.rrs_run_commands.specs.declared.options.Setting.TheVariants.{Limit, Memory, From, To, Only, Steps, Output, Callgrind, Input, Clock, Random, Variable, Files, ReadFiles, Tree, Append, Symbols, Text, Data, Executable}
+use Rattle.rrs_run_commands.specs.declared.options.Setting.TheVariants.{Limit, Memory, From, To, Only, Steps, Output, Callgrind, Input, Clock, Random, March, Variable, Files, ReadFiles, Tree, Append, Symbols, Text, Data, Executable}
 use Rattle.rrs_run_commands.specs.declared.refusal.Mistake.{Mistake}
 use Rattle.rrs_run_commands.specs.declared.requests.Form.{Form}
 use Rattle.rrs_run_commands.specs.declared.requests.Request.{Request}
@@ -57,6 +60,7 @@ pub record Wanted : Type 0 where
   pub waits : Bool
   pub clock_fixed : Bool
   pub random_host : Bool
+  pub march : Option HartProfile
   pub form : Form
   pub limit : ℕ
   pub memory : Option ℕ
@@ -91,6 +95,7 @@ unasked task = record {
   waits = false;
   clock_fixed = false;
   random_host = false;
+  march = None;
   form = Form.Bytes;
   limit = usual_limit task;
   memory = None;
@@ -129,6 +134,7 @@ wanted_of request = record {
   waits = request.waits;
   clock_fixed = request.has_fixed_clock;
   random_host = request.has_host_random;
+  march = request.march;
   form = request.form;
   limit = request.limit;
   memory = request.memory;
@@ -230,6 +236,8 @@ Sets task Clock value old new =
     (value ≡ codes "fixed") × (new ≡ record old { clock_fixed = true })
 Sets task Random value old new =
     (value ≡ codes "host") × (new ≡ record old { random_host = true })
+Sets task March value old new =
+    (profile : HartProfile) × IsMarch value profile × (new ≡ record old { march = Some profile })
 Sets task Variable value old new =
     IsVariable value × (length old.variables < most_variables)
     × (new ≡ record old { variables = old.variables ++ value ∷ [] })
@@ -275,6 +283,8 @@ RefusesValue task Input value old fault =
     (value ≡ codes "polled" → ⊥) × (value ≡ codes "wait" → ⊥) × (fault ≡ Wrong Input value)
 RefusesValue task Clock value old fault = (value ≡ codes "fixed" → ⊥) × (fault ≡ Wrong Clock value)
 RefusesValue task Random value old fault = (value ≡ codes "host" → ⊥) × (fault ≡ Wrong Random value)
+RefusesValue task March value old fault =
+    ((profile : HartProfile) → IsMarch value profile → ⊥) × (fault ≡ Wrong March value)
 RefusesValue task Variable value old fault = RefusesVariable old.variables value fault
 RefusesValue task Files value old fault = ⊥
 RefusesValue task ReadFiles value old fault = ⊥

@@ -1,5 +1,5 @@
 -- What the words of a command line are, as lists of bytes.
-use Rattle.std.specs.Prelude.{ℕ, ◌+◌, ◌^◌, ◌<◌, ◌≤◌, ◌≡◌, ◌-◌, ◌*◌, ◌%◌, ◌⊎◌, ◌==◌, List, length, take, drop, codes, slice_index}
+use Rattle.std.specs.Prelude.{ℕ, ◌+◌, ◌^◌, ◌<◌, ◌≤◌, ◌≡◌, ◌-◌, ◌*◌, ◌%◌, ◌⊎◌, ◌==◌, List, [], ◌++◌, length, take, drop, codes, slice_index, Bool, true, false}
 use Rattle.std.specs.List.{position_or_len, before_first, after_first}
 use Rattle.std.specs.Str.Parse.{IsNumeral, digits_value}
 use Rattle.rrs_reports.specs.declared.commit_log.StepRange.{StepRange}

@@ -10,8 +10,9 @@ use rrs_board::{
     Board, BoardEnd, BoardError, BoardEvent, PlainRuns, Profile, TerminalError, Typed, device_tree,
     run_at_terminal,
 };
-use rrs_elf::Addresses;
+use rrs_elf::{Addresses, CodeUnit, has_compressed_code};
 use rrs_fast::Ending;
+use rrs_hart::HartProfile;
 use rrs_machine::Mode;
 use std::io::{Read, Write};
 use std::rt::Files;
@@ -28,11 +29,34 @@ fn refused<'a>(path: &'a str, file: &[u8], error: BoardError, bytes: u64) -> Ref
     }
 }
 
-/// What the hart of the board has beside RV32IM and machine mode.
-const PROFILE: Profile = Profile {
-    atomics: true,
-    user_mode: true,
-};
+/// The layers of the hart of a board: those of `--march`, or else extension A, `fence.i`, Zba, Zbb
+/// and Zbs, and compressed code where the flags of an executable have it. Misaligned accesses are exceptions.
+pub(crate) fn layers_of(request: Request<'_>, file: &[u8]) -> HartProfile {
+    match request.march {
+        Some(profile) => HartProfile {
+            misaligned: false,
+            ..profile
+        },
+        None => HartProfile {
+            atomics: true,
+            fence_i: true,
+            misaligned: false,
+            compressed: !request.is_raw && has_compressed_code(file),
+            zba: true,
+            zbb: true,
+            zbs: true,
+        },
+    }
+}
+
+/// What the instructions of a hart with these layers lie in.
+pub(crate) fn unit_of(layers: HartProfile) -> CodeUnit {
+    if layers.compressed {
+        CodeUnit::HalfWord
+    } else {
+        CodeUnit::Word
+    }
+}
 
 /// The bytes of RAM at its end that a device tree is put into.
 const TREE_ROOM: u64 = 0x1_0000;
@@ -40,8 +64,9 @@ const TREE_ROOM: u64 = 0x1_0000;
 /// The arguments for a kernel where no word says them: its console is the UART.
 const USUAL_ARGUMENTS: &str = "earlycon=uart8250,mmio,0x10000000 console=ttyS0";
 
-/// The device tree that a board with so many bytes of RAM hands over, if it hands one over: a file,
-/// or its own, for a raw image and where a word has arguments for the kernel.
+/// The device tree that a board whose hart has these layers, with so many bytes of RAM, hands over,
+/// if it hands one over: a file, or its own, for a raw image and where a word has arguments for the
+/// kernel.
 ///
 /// # Errors
 ///
@@ -50,6 +75,7 @@ const USUAL_ARGUMENTS: &str = "earlycon=uart8250,mmio,0x10000000 console=ttyS0";
 fn tree_of<'a, H: Files + AllocGlobal>(
     rt: &H,
     request: Request<'a>,
+    layers: HartProfile,
     bytes: u64,
 ) -> Result<Option<Vec<u8>>, Refusal<'a>> {
     if let Some(path) = request.tree {
@@ -66,7 +92,7 @@ fn tree_of<'a, H: Files + AllocGlobal>(
         return Ok(None);
     }
     let arguments = request.append.unwrap_or(USUAL_ARGUMENTS);
-    match device_tree(rt.alloc(), bytes.min(1 << 31) as u32, arguments) {
+    match device_tree(rt.alloc(), layers, bytes.min(1 << 31) as u32, arguments) {
         Ok(tree) if tree.len() as u64 > TREE_ROOM => {
             Err(Refusal::File(request.path(), FileFault::LongArguments))
         }
@@ -119,18 +145,22 @@ pub(crate) fn board_with<'a, H: Files + AllocGlobal>(
     }
     let bytes = request.memory.unwrap_or(usual_memory(Task::Board));
     let bytes = bytes.min(most_memory(Task::Board)) / 8 * 8;
-    let tree = tree_of(rt, request, bytes)?;
+    let layers = layers_of(request, file);
+    let tree = tree_of(rt, request, layers, bytes)?;
     let words = (bytes / 4) as usize;
     let (loaded, image) = if request.is_raw {
         (Board::load_image(rt.alloc(), file, words), file.len())
     } else {
-        (Board::load(rt.alloc(), file, words), 0)
+        (Board::load(rt.alloc(), file, unit_of(layers), words), 0)
     };
     let mut board = match loaded {
         Ok(board) => board,
         Err(error) => return Err(refused(request.path(), file, error, bytes)),
     };
-    board.set_profile(PROFILE);
+    board.set_profile(Profile {
+        hart: layers,
+        user_mode: true,
+    });
     if hand_tree(&mut board, tree, image, bytes) {
         Ok(board)
     } else {

@@ -1,8 +1,10 @@
 //! `rrs cover`: what a run of a program, or of a board, covered.
 
-use crate::boards::{Names, board_with, ending_of, own_names, stopped, typed_at};
+use crate::boards::{
+    Names, board_with, ending_of, layers_of, own_names, stopped, typed_at, unit_of,
+};
 use crate::disassembling::{code_of, flushed};
-use crate::executables::{memory_for, tell};
+use crate::executables::{hart_for, memory_for, tell};
 use crate::files::{Noting, STANDARD_ERROR, buffered, read_program};
 use crate::outputs::Outputs;
 use crate::places::check_written;
@@ -11,7 +13,7 @@ use crate::requests::Request;
 use crate::variables::variables_of;
 use rrs_board::Board;
 use rrs_elf::Addresses;
-use rrs_exec::{Progress, process_profile};
+use rrs_exec::Progress;
 use rrs_fast::Ending;
 use rrs_linux::Linux;
 use rrs_reports::{
@@ -97,7 +99,8 @@ pub fn cover<'a, H: Files + Eprint + AllocGlobal, R: Read, W: Write, E: Write, P
 ) -> Result<Ending, Refusal<'a>> {
     check_written(rt, request)?;
     let file = read_program(rt, request.path())?;
-    let code = code_of(rt.alloc(), request.path(), &file, Addresses::Virtual)?;
+    let unit = unit_of(hart_for(&file, request));
+    let code = code_of(rt.alloc(), request.path(), &file, Addresses::Virtual, unit)?;
     cover_code(rt, request, &file, &code, environment, errors, progress)
 }
 
@@ -123,7 +126,7 @@ fn cover_code<'a, H: Files + Eprint + AllocGlobal, R: Read, W: Write, E: Write, 
         &variables,
         memory_for(file, request.memory),
         request.limit,
-        process_profile(request.is_strict),
+        hart_for(file, request),
         environment,
         progress,
     );
@@ -158,10 +161,11 @@ pub fn cover_firmware<'a, H: Files + Eprint + AllocGlobal, R: Read, W: Write, E:
     check_written(rt, request)?;
     let file = read_program(rt, request.path())?;
     let board = board_with(rt, request, &file)?;
+    let unit = unit_of(layers_of(request, &file));
     match request.symbols {
         Some(path) => {
             let named = read_program(rt, path)?;
-            let code = code_of(rt.alloc(), path, &named, Addresses::Virtual)?;
+            let code = code_of(rt.alloc(), path, &named, Addresses::Virtual, unit)?;
             let names = Names {
                 file: &named,
                 addresses: Addresses::Virtual,
@@ -170,7 +174,7 @@ pub fn cover_firmware<'a, H: Files + Eprint + AllocGlobal, R: Read, W: Write, E:
         }
         None if request.is_raw => Err(Refusal::File(request.path(), FileFault::HasNoSymbols)),
         None => {
-            let code = code_of(rt.alloc(), request.path(), &file, Addresses::Physical)?;
+            let code = code_of(rt.alloc(), request.path(), &file, Addresses::Physical, unit)?;
             let names = own_names(request, &file);
             cover_loaded(rt, board, request, &code, names, input, output, errors)
         }

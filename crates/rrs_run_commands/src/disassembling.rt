@@ -8,23 +8,14 @@ use std::alloc::{AllocError, Global};
 use std::io::{self, Write};
 use std::rt::Files;
 
-/// The code of an executable whose segments are loaded at these of their addresses.
+/// The code of an executable whose segments are loaded at these of their addresses, and whose
+/// instructions lie in such units.
 ///
 /// # Errors
 ///
 /// `Refusal::File` where the file is no executable, or has a symbol table that can't be read, and
 /// out of memory.
 pub(crate) fn code_of<'a, 'f>(
-    alloc: Global,
-    path: &'a str,
-    file: &'f [u8],
-    addresses: Addresses,
-) -> Result<Code<'f>, Refusal<'a>> {
-    code_in_units(alloc, path, file, addresses, CodeUnit::Word)
-}
-
-/// The same of an executable whose instructions lie in such units.
-pub(crate) fn code_in_units<'a, 'f>(
     alloc: Global,
     path: &'a str,
     file: &'f [u8],
@@ -80,7 +71,7 @@ pub fn disassemble_file<'a, H: Files + AllocGlobal, O: Write>(
 ) -> Result<(), Refusal<'a>> {
     let file = read_program(rt, path)?;
     let unit = unit_in(&file);
-    let code = code_in_units(rt.alloc(), path, &file, Addresses::Virtual, unit)?;
+    let code = code_of(rt.alloc(), path, &file, Addresses::Virtual, unit)?;
     let mut out = buffered(rt.alloc(), out)?;
     let written = write_disassembly(&mut out, path, &code);
     flushed(written, &mut out)

@@ -1,10 +1,10 @@
 //! What is listed of an executable: its entry, its segments, and its symbols, as `readelf -lsW`
 //! lists them.
 
-use crate::disassembling::flushed;
+use crate::disassembling::{flushed, unit_in};
 use crate::files::{buffered, read_program};
 use crate::refusal::{Refusal, no_executable};
-use rrs_elf::{Executable, ProgramHeader, Symbol, Symbols};
+use rrs_elf::{Addresses, Executable, ProgramHeader, Symbol, Symbols};
 use rrs_lib::disassembly::hexadecimal_digits;
 use rrs_reports::{Pieces, SHOWN_BYTES};
 use std::io::{self, Write};
@@ -124,7 +124,7 @@ fn write_listing<W: Write>(
     out.finish()
 }
 
-/// Lists an executable.
+/// Lists an executable, also one with compressed code.
 ///
 /// # Errors
 ///
@@ -136,7 +136,7 @@ pub fn list_file<'a, H: Files + AllocGlobal, O: Write>(
     out: &mut O,
 ) -> Result<(), Refusal<'a>> {
     let file = read_program(rt, path)?;
-    let program = match Executable::parse(&file) {
+    let program = match Executable::parse_in(&file, Addresses::Virtual, unit_in(&file)) {
         Ok(program) => program,
         Err(error) => return Err(no_executable(path, &file, error)),
     };

@@ -1,10 +1,12 @@
 //! Executables as the subcommands take them: read, run, and what is told where they fail.
 
-ghost use Rattle.std.specs.Prelude.{◌≡◌, ◌↔◌, None, IsTrue, IfOk, IfSome, max, min};
+ghost use Rattle.std.specs.Prelude.{◌≡◌, ◌↔◌, ◌≤◌, ◌%◌, None, IsTrue, IfOk, IfSome, length, max, min, not};
+ghost use Rattle.rrs_elf.specs.Headers.{e_flags};
 ghost use Rattle.rrs_elf.specs.Executables.{IsExecutableIn};
 ghost use Rattle.rrs_elf.specs.declared.code_units.CodeUnit.TheVariants.{HalfWord};
 ghost use Rattle.rrs_elf.specs.declared.program_headers.Addresses.TheVariants.{Virtual};
 ghost use Rattle.rrs_exec.specs.Images.{needed_of};
+ghost use Rattle.rrs_exec.specs.Processes.{process_profile};
 ghost use Rattle.rrs_files.specs.Requests.{IsOfFiles};
 ghost use Rattle.rrs_run_commands.specs.Execution.{is_overrun};
 ghost use Rattle.rrs_run_commands.specs.Options.{usual_memory, most_unasked};
@@ -18,6 +20,7 @@ use rrs_elf::{Addresses, CodeUnit, Executable, has_compressed_code};
 use rrs_exec::{ImageError, ProcessEnd, Progress, execute_process, needed_memory, profile_for};
 use rrs_fast::Ending;
 use rrs_files::{Descriptors, Files as ProgramFiles, HostFolder, execute_below};
+use rrs_hart::HartProfile;
 use rrs_lib::instruction_executor::InstructionException;
 use rrs_linux::{Heap, Linux};
 use rrs_reports::{SHOWN_BYTES, ShownName};
@@ -38,6 +41,25 @@ pub fn memory_for(file: &[u8], asked: Option<u64>) -> u64
     match Executable::parse_in(file, Addresses::Virtual, CodeUnit::HalfWord) {
         Ok(executable) => usual.max(needed_memory(&executable).min(MOST_UNASKED)),
         Err(_) => usual,
+    }
+}
+
+/// The hart that a program runs on: that of `--march`, or else the usual one for its file. By
+/// `--strict-alignment` a misaligned access is a fault.
+pub fn hart_for(file: &[u8], request: Request<'_>) -> HartProfile
+    ensures named { IfSome request.entry.march (λ profile.
+        result ≡ record profile { misaligned = not request.entry.is_strict }) }
+    ensures code { request.entry.march ≡ None → (IsTrue result.compressed
+        ↔ ((52 ≤ length file.now) × (e_flags file.now % 2 ≡ 1))) }
+    ensures rest { request.entry.march ≡ None → result
+        ≡ record (process_profile request.entry.is_strict) { compressed = result.compressed } }
+{
+    match request.march {
+        Some(profile) => HartProfile {
+            misaligned: !request.is_strict,
+            ..profile
+        },
+        None => profile_for(file, request.is_strict),
     }
 }
 
@@ -84,7 +106,7 @@ fn execute_bytes<'a, H: Files + AllocGlobal, R: Read, W: Write, E: Write, P: Pro
     progress: &mut P,
 ) -> Result<Result<ProcessEnd, ImageError>, Refusal<'a>> {
     let wanted = memory_for(file, request.memory);
-    let profile = profile_for(file, request.is_strict);
+    let profile = hart_for(file, request);
     let Ok(variables) = variables_of(rt.alloc(), request) else {
         return Err(out_of_memory());
     };

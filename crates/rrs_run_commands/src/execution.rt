@@ -6,13 +6,13 @@ ghost use Rattle.rrs_exec.specs.Processes.{Executing};
 ghost use Rattle.rrs_linux.specs.SystemCalls.{Serves};
 ghost use Rattle.rrs_run_commands.specs.Execution.{ExecutesProgram};
 
-use crate::executables::tell;
+use crate::executables::{hart_for, tell};
 use crate::files::read_program;
 use crate::refusal::{Refusal, unloaded};
 use crate::requests::Request;
 use rrs_cli::fault::RunFault;
 use rrs_cli::loading::load;
-use rrs_exec::{DECODED_WORDS, InPieces, ProcessEnd, Progress, process_profile};
+use rrs_exec::{DECODED_WORDS, InPieces, ProcessEnd, Progress};
 use rrs_fast::{CachedMemory, Ending, OwnHart, ServedEnd, run_served};
 use rrs_hart::HartProfile;
 use rrs_lib::HartState;
@@ -94,7 +94,7 @@ pub fn execute_file<'a, H: Files + Eprint + AllocGlobal, R: Read, W: Write, E: W
         rt.alloc(),
         &mut file.as_slice(),
         request.limit,
-        process_profile(request.is_strict),
+        hart_for(b"", request),
         environment,
         progress,
     ) {

@@ -1,6 +1,6 @@
 //! What all subcommands of `rrs` share, and those that run something or say what an executable has.
 //!
-//! Shared are the words that they are asked with (`words`, `options`, `variables`, `requests`), the
+//! Shared are the words that they are asked with (`words`, `architectures`, `options`, `variables`, `requests`), the
 //! files that they read (`files`) and write (`outputs`), which of these are one (`places`), and why
 //! they refuse what they are asked (`refusal`). The subcommands here are runs of files, with and
 //! without a line for each instruction, programs that make system calls of Linux, with a report of
@@ -8,6 +8,7 @@
 
 #![tactic(auto)]
 
+pub mod architectures;
 pub mod boards;
 pub mod covering;
 pub mod debugger;

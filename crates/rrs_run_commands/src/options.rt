@@ -80,6 +80,8 @@ pub enum Setting {
     Clock,
     /// `--random`, with `host`.
     Random,
+    /// `--march`, with the name of an architecture.
+    March,
     /// `--env`, with a variable: `NAME=VALUE`.
     Variable,
     /// `--files`, with a path.
@@ -101,7 +103,7 @@ pub enum Setting {
 }
 
 /// The words of all options.
-pub static WORDS: [&str; 28] = [
+pub static WORDS: [&str; 29] = [
     "--quiet",
     "--raw",
     "--strict-alignment",
@@ -121,6 +123,7 @@ pub static WORDS: [&str; 28] = [
     "--input",
     "--clock",
     "--random",
+    "--march",
     "--env",
     "--files",
     "--files-read-only",
@@ -167,6 +170,7 @@ fn setting_named(name: &str) -> Option<Setting>
         "--input" => Some(Setting::Input),
         "--clock" => Some(Setting::Clock),
         "--random" => Some(Setting::Random),
+        "--march" => Some(Setting::March),
         "--env" => Some(Setting::Variable),
         "--files" => Some(Setting::Files),
         "--files-read-only" => Some(Setting::ReadFiles),
@@ -233,6 +237,12 @@ fn has_setting(task: Task, setting: Setting) -> bool
             matches!(task, Task::Execute | Task::Debug) || is_on_board(task) || is_watched(task)
         }
         Setting::Clock => matches!(task, Task::Execute | Task::Trace | Task::Cover),
+        Setting::March => {
+            matches!(
+                task,
+                Task::Execute | Task::Trace | Task::Cover | Task::Debug
+            ) || is_on_board(task)
+        }
         Setting::Random => matches!(task, Task::Execute),
         Setting::Variable => matches!(
             task,

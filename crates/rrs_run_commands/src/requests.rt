@@ -5,6 +5,7 @@ ghost use Rattle.rrs_run_commands.specs.Options.{most_memory, most_variables};
 ghost use Rattle.rrs_run_commands.specs.Words.{HasValue, IsSize, IsVariable};
 ghost use Rattle.rrs_run_commands.specs.Requests.{AsksFor, Gives, IsProgram, IsWhole, Refuses, RefusesMemory, RefusesOption, RefusesValue, RefusesVariable, RefusesWord, Sets, Takes, TakesOption, TakesWord, fault_of, has_arguments, reading_of, switched, unasked, unread, variables_in, wanted_of};
 
+use crate::architectures::march_of;
 use crate::options::{Setting, Switch, Task, most_memory, setting_of, switch_of, usual_limit};
 use crate::refusal::Mistake;
 use crate::variables::Variables;
@@ -12,6 +13,7 @@ use crate::words::{
     address_of, is_dashed, is_variable, name_and_value, number_of, size_of, steps_of,
 };
 use rrs_cli::limits::limit_of;
+use rrs_hart::HartProfile;
 use rrs_reports::StepRange;
 
 /// What is printed of a source that is assembled.
@@ -52,6 +54,8 @@ pub struct Request<'a> {
     pub has_fixed_clock: bool,
     /// Whether the random bytes of a program are those of the host: `--random host`.
     pub has_host_random: bool,
+    /// The hart of the architecture that a word names, if one does: `--march`.
+    pub march: Option<HartProfile>,
     /// What is printed of a source.
     pub form: Form,
     /// The most steps that are made: `--limit`.
@@ -117,6 +121,7 @@ fn unasked<'a>(task: Task) -> Request<'a>
         waits: false,
         has_fixed_clock: false,
         has_host_random: false,
+        march: None,
         form: Form::Bytes,
         limit: usual_limit(task),
         memory: None,
@@ -352,6 +357,10 @@ fn set<'a>(
         Setting::Clock => return Err(Mistake::Wrong(setting, value)),
         Setting::Random if value == "host" => request.has_host_random = true,
         Setting::Random => return Err(Mistake::Wrong(setting, value)),
+        Setting::March => match march_of(value) {
+            Some(profile) => request.march = Some(profile),
+            None => return Err(Mistake::Wrong(setting, value)),
+        },
         Setting::Variable => request.variables = with_variable(request.variables, value)?,
         Setting::Files => {
             request.folder = Some(value);

@@ -1,8 +1,8 @@
 //! `rrs trace`: the commit log of a run of a program, or of a board, as Spike writes it.
 
 use crate::boards::{Names, board_with, ending_of, own_names, stopped, typed_at};
-use crate::disassembling::{code_in_units, unit_in};
-use crate::executables::{memory_for, tell};
+use crate::disassembling::{code_of, unit_in};
+use crate::executables::{hart_for, memory_for, tell};
 use crate::files::{Noting, STANDARD_ERROR, buffered, read_program, unwritten};
 use crate::options::Setting;
 use crate::outputs::created;
@@ -13,7 +13,7 @@ use crate::variables::variables_of;
 use crate::words::number_of;
 use rrs_board::Board;
 use rrs_elf::{Addresses, CodeUnit, Executable, Symbols};
-use rrs_exec::{Progress, profile_for};
+use rrs_exec::Progress;
 use rrs_fast::Ending;
 use rrs_linux::Linux;
 use rrs_reports::{BoardTraceError, CodeRange, LogWindow, TraceError, trace_board, trace_process};
@@ -90,7 +90,7 @@ fn function_of<'a>(
     let Some(name) = name else {
         return Ok(None);
     };
-    let code = code_in_units(
+    let code = code_of(
         alloc,
         path,
         names.file,
@@ -158,7 +158,7 @@ fn trace_to<'a, H: Eprint + AllocGlobal, R: Read, W: Write, E: Write, O: Write, 
         &variables,
         memory_for(file, request.memory),
         request.limit,
-        profile_for(file, request.is_strict),
+        hart_for(file, request),
         environment,
         window,
         &mut out,
@@ -182,9 +182,9 @@ fn trace_to<'a, H: Eprint + AllocGlobal, R: Read, W: Write, E: Write, O: Write, 
 ///
 /// # Errors
 ///
-/// Those of `read_program`, `check_written` and `window_of`; `Refusal::File` where the file for the log can't be created, and
-/// where it is no executable that can be run. No step is made then. The same where a write of the
-/// log fails, which ends the run; out of memory as a failure.
+/// Those of `read_program`, `check_written` and `window_of`; `Refusal::File` where the file for the
+/// log can't be created, and where it is no executable that can be run. No step is made then. The
+/// same where a write of the log fails, which ends the run; out of memory as a failure.
 pub fn trace<'a, H: Files + Eprint + AllocGlobal, R: Read, W: Write, E: Write, P: Progress>(
     rt: &H,
     request: Request<'a>,

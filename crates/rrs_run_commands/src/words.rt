@@ -1,6 +1,6 @@
 //! What a word of a command line is: a number, a size, an address, or an option.
 
-ghost use Rattle.std.specs.Prelude.{◌≡◌, ◌↔◌, ◌⊎◌, ◌+◌, ◌^◌, ◌<◌, ◌≤◌, ℕ, IsTrue, MatchOption, slice_index};
+ghost use Rattle.std.specs.Prelude.{◌≡◌, ◌↔◌, ◌⊎◌, ◌+◌, ◌^◌, ◌<◌, ◌≤◌, ℕ, IsTrue, MatchOption, slice_index, true};
 ghost use Rattle.std.specs.Str.Parse.{IsNumeral, digits_value};
 ghost use Rattle.rrs_run_commands.specs.Words.{HasValue, IsAddress, IsDashed, IsInUnit, IsNumber, IsSize, IsStepRange, IsVariable, name_in, value_in};
 
