@@ -1,5 +1,6 @@
 //! The tests of the assembler, written as a user's crate would be. The words of
-//! pseudo-instructions, and the bytes of sources, are those that GNU `as` makes.
+//! pseudo-instructions and of compressed instructions, and the bytes of sources, are those that GNU
+//! `as` makes.
 //!
 //! Of `rrs_asm` and `rrs_asm_output`: lines and their words, the places of labels, statements and
 //! mistakes, and the programs of `examples/assembly`, which are assembled, compared with their

@@ -59,6 +59,59 @@ static ROWS: [(&str, &[u32]); 48] = [
     ("ebreak", &[0x00100073]),
 ];
 
+/// A line of each instruction of a layer, and its word.
+static LAYERS: [(&str, &[u32]); 49] = [
+    ("csrrw a0, mstatus, a1", &[0x30059573]),
+    ("csrrs a0, mepc, a1", &[0x3415a573]),
+    ("csrrc ra, 4095, sp", &[0xfff130f3]),
+    ("csrrwi a0, mtvec, 5", &[0x3052d573]),
+    ("csrrsi a0, mstatus, 8", &[0x30046573]),
+    ("csrrci ra, mhpmcounter3h, 0", &[0xb83070f3]),
+    ("mret", &[0x30200073]),
+    ("wfi", &[0x10500073]),
+    ("fence.i", &[0x0000100f]),
+    ("lr.w a0, (a1)", &[0x1005a52f]),
+    ("sc.w a0, a2, (a1)", &[0x18c5a52f]),
+    ("amoswap.w a0, a2, (a1)", &[0x08c5a52f]),
+    ("amoadd.w a0, a2, (a1)", &[0x00c5a52f]),
+    ("amoxor.w a0, a2, (a1)", &[0x20c5a52f]),
+    ("amoand.w a0, a2, (a1)", &[0x60c5a52f]),
+    ("amoor.w a0, a2, (a1)", &[0x40c5a52f]),
+    ("amomin.w a0, a2, (a1)", &[0x80c5a52f]),
+    ("amomax.w a0, a2, (a1)", &[0xa0c5a52f]),
+    ("amominu.w a0, a2, (a1)", &[0xc0c5a52f]),
+    ("amomaxu.w a0, a2, (a1)", &[0xe0c5a52f]),
+    ("sh1add a0, a1, a2", &[0x20c5a533]),
+    ("sh2add a0, a1, a2", &[0x20c5c533]),
+    ("sh3add a0, a1, a2", &[0x20c5e533]),
+    ("andn a0, a1, a2", &[0x40c5f533]),
+    ("orn a0, a1, a2", &[0x40c5e533]),
+    ("xnor a0, a1, a2", &[0x40c5c533]),
+    ("clz a0, a1", &[0x60059513]),
+    ("ctz a0, a1", &[0x60159513]),
+    ("cpop a0, a1", &[0x60259513]),
+    ("max a0, a1, a2", &[0x0ac5e533]),
+    ("maxu a0, a1, a2", &[0x0ac5f533]),
+    ("min a0, a1, a2", &[0x0ac5c533]),
+    ("minu a0, a1, a2", &[0x0ac5d533]),
+    ("sext.b a0, a1", &[0x60459513]),
+    ("sext.h a0, a1", &[0x60559513]),
+    ("zext.h a0, a1", &[0x0805c533]),
+    ("rol a0, a1, a2", &[0x60c59533]),
+    ("ror a0, a1, a2", &[0x60c5d533]),
+    ("rori a0, a1, 31", &[0x61f5d513]),
+    ("orc.b a0, a1", &[0x2875d513]),
+    ("rev8 a0, a1", &[0x6985d513]),
+    ("bclr a0, a1, a2", &[0x48c59533]),
+    ("bclri a0, a1, 5", &[0x48559513]),
+    ("bext a0, a1, a2", &[0x48c5d533]),
+    ("bexti a0, a1, 5", &[0x4855d513]),
+    ("binv a0, a1, a2", &[0x68c59533]),
+    ("binvi a0, a1, 5", &[0x68559513]),
+    ("bset a0, a1, a2", &[0x28c59533]),
+    ("bseti a0, a1, 5", &[0x28559513]),
+];
+
 /// Pseudo-instructions, and how operands can be written.
 static PSEUDO_INSTRUCTIONS: [(&str, &[u32]); 73] = [
     ("csrrw a0, mstatus, a1", &[0x30059573]),
@@ -136,6 +189,71 @@ static PSEUDO_INSTRUCTIONS: [(&str, &[u32]); 73] = [
     ("xori tp, ra, '\\n'", &[0x00a0c213]),
 ];
 
+/// Compressed instructions.
+static COMPRESSED: [(&str, &[u32]); 39] = [
+    ("c.addi4spn s0, sp, 4", &[0x0040]),
+    ("c.addi4spn a5, x2, 1020", &[0x1ffc]),
+    ("c.lw a0, (a1)", &[0x4188]),
+    ("c.lw x15, 124(x8)", &[0x5c7c]),
+    ("c.sw s1, 4(fp)", &[0xc044]),
+    ("c.nop", &[0x0001]),
+    ("c.addi sp, -32", &[0x1101]),
+    ("c.addi zero, 0", &[0x0001]),
+    ("c.jal . - 2048", &[0x3001]),
+    ("c.li t6, 31", &[0x4ffd]),
+    ("c.li x0, 'a' - 'b'", &[0x507d]),
+    ("c.addi16sp sp, -512", &[0x7101]),
+    ("c.addi16sp x2, 496", &[0x617d]),
+    ("c.lui a0, 1", &[0x6505]),
+    ("c.lui t6, 0xfffe0", &[0x7f81]),
+    ("c.lui zero, 0xfffff", &[0x707d]),
+    ("c.srli a0, 31", &[0x817d]),
+    ("c.srai s1, 1", &[0x8485]),
+    ("c.andi a5, -32", &[0x9b81]),
+    ("c.sub a0, a1", &[0x8d0d]),
+    ("c.xor s0, a5", &[0x8c3d]),
+    ("c.or a2, a2", &[0x8e51]),
+    ("c.and a3, s1", &[0x8ee5]),
+    ("c.j . + 2046", &[0xaffd]),
+    ("c.beqz a0, . - 256", &[0xd101]),
+    ("c.bnez s1, . + 254", &[0xecfd]),
+    ("c.slli zero, 1", &[0x0006]),
+    ("c.slli a0, 31", &[0x057e]),
+    ("c.lwsp ra, (sp)", &[0x4082]),
+    ("c.lwsp t6, 252(sp)", &[0x5ffe]),
+    ("c.jr t6", &[0x8f82]),
+    ("c.mv zero, a0", &[0x802a]),
+    ("c.mv t6, ra", &[0x8f86]),
+    ("c.ebreak", &[0x9002]),
+    ("c.jalr ra", &[0x9082]),
+    ("c.add zero, t6", &[0x907e]),
+    ("c.add a0, a0", &[0x952a]),
+    ("c.swsp zero, 252(sp)", &[0xdf82]),
+    ("c.swsp ra, 4 (x2)", &[0xc206]),
+];
+
+/// Compressed instructions and others, with targets at even addresses.
+static MIXED: [(&str, &[u32]); 4] = [
+    (
+        "c.nop\nnop\na: j a\nc.beqz a0, a\nbeqz a0, a\nc.j b\nc.nop\nb: la a0, b",
+        &[
+            0x00130001, 0x006f0000, 0xdd750000, 0xfe050de3, 0x0001a011, 0x00000517, 0x00050513,
+        ],
+    ),
+    (
+        "a: c.nop\n.p2align 3\nc.bnez s0, a\nc.jal b\nlw a0, 4(a1)\nb:",
+        &[0x00010001, 0x00000013, 0x2019fc65, 0x0045a503],
+    ),
+    (
+        ".equ four, 4\nc.lw a0, four * 2 - 4(a1)\nc.addi a0, four\ncall c\nc: c.ebreak",
+        &[0x051141c8, 0x00000097, 0x008080e7, 0x00009002],
+    ),
+    (
+        ".option rvc\n.half 1\nj . - 2\n.half 1",
+        &[0xf06f0001, 0x0001ffff],
+    ),
+];
+
 /// Labels before and after, local labels, constants, comments, and several statements on a line.
 static SYMBOLS: [(&str, &[u32]); 9] = [
     ("a: nop\nj a", &[0x00000013, 0xffdff06f]),
@@ -170,11 +288,11 @@ static DATA: [(&str, &[u32]); 12] = [
     (".ascii \"a\\n\\\"#\"", &[0x23220a61]),
     (".asciz \"ab\"", &[0x00006261]),
     (".string \"a\", \"b\"", &[0x00620061]),
-    (".byte 1\n.balign 4", &[1]),
+    (".byte 1\n.balign 4", &[0x00010001]),
     (".space 2, 7\n.half 1", &[0x00010707]),
     (".byte 9\n.org 0x103\n.byte 8", &[0x08000009]),
     (".word a + 4 - 2\na:", &[0x00000106]),
-    (".half 1\n.p2align 3\na = .\n", &[1, 0x00000013]),
+    (".half 1\n.p2align 3\na = .\n", &[0x00010001, 0x00000013]),
 ];
 
 /// The last statement ends at the end of addresses.
@@ -183,7 +301,10 @@ static LAST: [(&str, &[u32]); 1] = [(".word .", &[0xffff_fffc])];
 #[test]
 fn lines_are_their_words(rt: HostRuntime) {
     same_words(&rt, rt.alloc(), 0x100, &ROWS);
+    same_words(&rt, rt.alloc(), 0, &LAYERS);
     same_words(&rt, rt.alloc(), 0, &PSEUDO_INSTRUCTIONS);
+    same_words(&rt, rt.alloc(), 0, &COMPRESSED);
+    same_words(&rt, rt.alloc(), 0, &MIXED);
     same_words(&rt, rt.alloc(), 0, &SYMBOLS);
     same_words(&rt, rt.alloc(), 0x100, &DATA);
     same_words(&rt, rt.alloc(), 0xffff_fffc, &LAST);

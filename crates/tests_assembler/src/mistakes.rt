@@ -6,7 +6,7 @@ use std::alloc::Global;
 
 /// Sources, each with the line and the column of its mistake. Of several the first of each line is
 /// told, in the order of the lines.
-static MISTAKES: [(&str, &[Wrong]); 46] = [
+static MISTAKES: [(&str, &[Wrong]); 61] = [
     ("nop\n  addx a0, a1", &[(2, 3, SourceErrorKind::Unknown)]),
     (".wrod 1", &[(1, 1, SourceErrorKind::Unknown)]),
     ("addi-1", &[(1, 1, SourceErrorKind::Unknown)]),
@@ -71,6 +71,24 @@ static MISTAKES: [(&str, &[Wrong]); 46] = [
     ),
     ("nop\n.org 2", &[(2, 6, SourceErrorKind::Backward)]),
     (".byte 1\nnop\nnop", &[(2, 1, SourceErrorKind::Misplaced)]),
+    (".half 1\nnop", &[(2, 1, SourceErrorKind::Misplaced)]),
+    (
+        "c.nop\n.byte 1\nc.nop",
+        &[(3, 1, SourceErrorKind::Misplaced)],
+    ),
+    ("c.mul a0, a1", &[(1, 1, SourceErrorKind::Unknown)]),
+    ("c.lw t0, 4(a1)", &[(1, 6, SourceErrorKind::Register)]),
+    ("c.lwsp a0, 4(a1)", &[(1, 14, SourceErrorKind::Register)]),
+    ("c.lui x2, 1", &[(1, 7, SourceErrorKind::Register)]),
+    ("c.add a0, zero", &[(1, 11, SourceErrorKind::Register)]),
+    ("c.lw a0, 2(a1)", &[(1, 10, SourceErrorKind::Range)]),
+    ("c.addi16sp sp, 0", &[(1, 16, SourceErrorKind::Range)]),
+    ("c.lui a0, -1", &[(1, 11, SourceErrorKind::Range)]),
+    ("c.slli a0, 0", &[(1, 12, SourceErrorKind::Range)]),
+    ("c.beqz a0, . + 256", &[(1, 12, SourceErrorKind::Range)]),
+    ("c.j . + 3", &[(1, 5, SourceErrorKind::Unaligned)]),
+    ("c.li a0, a\na:", &[(1, 10, SourceErrorKind::Later)]),
+    ("a1: c.addi a0, a1", &[(1, 16, SourceErrorKind::Value)]),
     (".space 0x4000001", &[(1, 8, SourceErrorKind::TooLong)]),
     (".comm b, 2, 3", &[(1, 13, SourceErrorKind::Range)]),
     (

@@ -5,7 +5,7 @@ use rrs_asm_output::{MOST_MISTAKES, Mistake, mistakes_of};
 use std::alloc::{AllocError, Global};
 
 /// Sources, each with what is told of it.
-static TOLD: [(&str, &str); 42] = [
+static TOLD: [(&str, &str); 43] = [
     (
         "addi a0, a1, a2",
         "1:14: a number is wanted here: add takes three registers\n",
@@ -220,6 +220,16 @@ static TOLD: [(&str, &str); 42] = [
         ".dat\n.byte 1\n.text\nnop\nadd a0, a1",
         "1:1: no such instruction or directive: .dat; is .data meant?\n\
          5:11: a comma is wanted here: it is written add rd, rs1, rs2\n",
+    ),
+    (
+        "c.lw t0, 4(a1)\nc.mv a0, x0\nc.lwsp a0, 256(sp)\nc.lw a0, a1\nc.bnez a0\nc.fld a0, (a1)",
+        "1:6: another register is wanted here: \
+         c.lw takes x8 to x15, which are s0, s1 and a0 to a5\n\
+         2:10: another register is wanted here: c.mv takes no x0 there\n\
+         3:12: value out of range: c.lwsp takes multiples of 4 from 0 to 252\n\
+         4:10: an address is wanted here, as 0(a1)\n\
+         5:10: a comma is wanted here: it is written c.bnez rs, label\n\
+         6:1: no such instruction or directive: c.fld; it is not of RV32IM\n",
     ),
     (
         "add a0, a1\n.byte 1\nnop\n.ascii \"\\q\"\n.bss\n.word 1",

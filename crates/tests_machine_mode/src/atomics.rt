@@ -1,17 +1,18 @@
 //! Instructions of extension A, over a memory and on a device.
 
-use crate::steps::{QUIET, step_over};
+use crate::steps::{PLAIN, QUIET, step_over};
 use rrs_board::{Board, BoardEvent};
 use rrs_lib::HartState;
 use rrs_lib::memories::VecMemory;
 use rrs_machine::{CsrFile, Exception, MachineAnswer, Profile};
+use rrs_words::HartProfile;
 use std::alloc::{AllocError, Global};
 use std::test::Fail;
 
 /// Whether the hart has extension A.
 fn profile(atomics: bool) -> Profile {
     Profile {
-        atomics,
+        hart: HartProfile { atomics, ..PLAIN },
         user_mode: false,
     }
 }
@@ -79,6 +80,10 @@ fn each_atomic_instruction_is_executed(rt: HostRuntime) -> Result<(), Fail> {
         let left = left_by(alloc, true, word, address, Some(4))?;
         raised = raised && left == (MachineAnswer::Raised(exception), 0, 9, Some(4));
     }
+    // A sc.w that is refused takes the reservation away.
+    let refused = left_by(alloc, true, SC, 8, Some(8))?;
+    let fault = MachineAnswer::Raised(Exception::StoreFault(8));
+    raised = raised && refused == (fault, 0, 9, None);
     assert_eq!(rt; (done, unknown, raised), (true, true, true));
     Ok(())
 }

@@ -1,13 +1,14 @@
 //! Packets for firmware on a board, and what they are answered.
 
 use crate::packets::wanted;
+use crate::steps::PLAIN;
 use rrs_board::memory::Ram;
 use rrs_board::{
     Board, BoardEnd, BoardError, BoardEvent, PlainRuns, Profile, TerminalError, Typed,
     run_at_terminal,
 };
 use rrs_board_gdb::{BoardSession, serve};
-use rrs_elf::ElfError;
+use rrs_elf::{CodeUnit, ElfError};
 use rrs_gdb::{Link, LinkError, encode};
 use rrs_lib::{MemAccessSize, Memory};
 use rrs_machine::Mode;
@@ -310,7 +311,7 @@ fn loaded_end(
     segments: [Segment; 2],
 ) -> Result<Result<(BoardEnd, [Option<u32>; 2]), BoardError>, AllocError> {
     let file = executable_with(alloc, segments)?;
-    Ok(match Board::load(alloc, &file, 16) {
+    Ok(match Board::load(alloc, &file, CodeUnit::Word, 16) {
         Ok(mut board) => {
             let words = [
                 board.memory.read_mem(0x8000_0010, MemAccessSize::Word),
@@ -436,8 +437,8 @@ fn end_with(
 ) -> Result<Option<BoardEvent>, AllocError> {
     let mut board = firmware_at(alloc, pc)?;
     board.set_profile(Profile {
+        hart: PLAIN,
         user_mode: true,
-        atomics: false,
     });
     board.csrs.mstatus = mstatus;
     board.csrs.mie = mie;

@@ -1,6 +1,6 @@
 //! Each number of a CSR by each of the six instructions.
 
-use crate::steps::{START, holds_at, step_word};
+use crate::steps::{PLAIN, START, holds_at, step_word};
 use rrs_lib::HartState;
 use rrs_machine::{CsrFile, Exception, Inputs, MachineAnswer, Mode, Profile};
 use std::alloc::{AllocError, Global};
@@ -9,7 +9,7 @@ use std::test::Fail;
 /// What the hart keeps before each instruction. Both counters stand still.
 const BEFORE: CsrFile = CsrFile {
     profile: Profile {
-        atomics: false,
+        hart: PLAIN,
         user_mode: false,
     },
     mode: Mode::Machine,

@@ -2,10 +2,11 @@
 //! that is written from the specifications: `examples/machine/model.py` makes the same programs and
 //! prints the tables of these tests.
 
-use crate::steps::{holds_at, step_over};
+use crate::steps::{PLAIN, holds_at, step_over};
 use rrs_lib::HartState;
 use rrs_lib::memories::VecMemory;
 use rrs_machine::{CsrFile, Inputs, Mode, Profile};
+use rrs_words::HartProfile;
 use std::alloc::{AllocError, Global};
 use std::test::Fail;
 
@@ -80,8 +81,8 @@ const USER_NUMBERS: [u32; 24] = [
 
 /// Pseudo-random numbers of 24 bits: a linear congruence modulo 2^32.
 #[derive(Drop)]
-pub struct Numbers {
-    pub state: u32,
+struct Numbers {
+    state: u32,
 }
 
 impl Numbers {
@@ -172,7 +173,7 @@ fn word_by(user_mode: bool, kind: u32, a: u32, b: u32, c: u32) -> u32 {
 }
 
 /// The memory of a program.
-pub fn memory_of(
+fn memory_of(
     alloc: Global,
     user_mode: bool,
     numbers: &mut Numbers,
@@ -185,7 +186,7 @@ pub fn memory_of(
 }
 
 /// The hart of a program.
-pub fn hart_of(numbers: &mut Numbers) -> HartState {
+fn hart_of(numbers: &mut Numbers) -> HartState {
     let mut hart = HartState::new();
     for register in 1..8 {
         let high = numbers.next();
@@ -212,7 +213,7 @@ fn take_mode(csrs: &mut CsrFile, numbers: &mut Numbers) {
 }
 
 /// Two addresses for the instructions of extension A: one aligned, and one of all.
-pub fn take_addresses(hart: &mut HartState, numbers: &mut Numbers) {
+fn take_addresses(hart: &mut HartState, numbers: &mut Numbers) {
     hart.registers[6] = numbers.next() % 80 * 4;
     hart.registers[7] = numbers.next() % 0x100;
 }
@@ -223,9 +224,12 @@ fn reserved(csrs: &CsrFile) -> u32 {
 }
 
 /// The CSRs of a program.
-pub fn csrs_of(user_mode: bool, numbers: &mut Numbers) -> CsrFile {
+fn csrs_of(user_mode: bool, numbers: &mut Numbers) -> CsrFile {
     let mut csrs = CsrFile::with_profile(Profile {
-        atomics: user_mode,
+        hart: HartProfile {
+            atomics: user_mode,
+            ..PLAIN
+        },
         user_mode,
     });
     csrs.mstatus = numbers.next() & 0x88;

@@ -13,6 +13,9 @@ const ALL: HartProfile = HartProfile {
     fence_i: true,
     misaligned: true,
     compressed: false,
+    zba: true,
+    zbb: true,
+    zbs: true,
 };
 
 /// The hart of the kit.
@@ -21,14 +24,15 @@ const NONE: HartProfile = HartProfile {
     fence_i: false,
     misaligned: false,
     compressed: false,
+    zba: false,
+    zbb: false,
+    zbs: false,
 };
 
 /// A hart that has all layers and the compressed instructions.
 const SHORT: HartProfile = HartProfile {
-    atomics: true,
-    fence_i: true,
-    misaligned: true,
     compressed: true,
+    ..ALL
 };
 
 /// What a step leaves: how it ended, the pc, x5, the words at 4 and 8, and the reservation.

@@ -12,6 +12,8 @@ mod atomics;
 #[cfg(test)]
 mod boards;
 #[cfg(test)]
+mod compressed;
+#[cfg(test)]
 mod csrs;
 #[cfg(test)]
 mod generated;
@@ -20,10 +22,7 @@ mod half_words;
 #[cfg(test)]
 mod harts;
 #[cfg(test)]
-mod kept_words;
-#[cfg(test)]
 mod packets;
-pub mod pulses;
 #[cfg(test)]
 mod records;
 #[cfg(test)]

@@ -4,6 +4,7 @@ use rrs_lib::HartState;
 use rrs_lib::instruction_executor::InstructionExecutor;
 use rrs_lib::memories::VecMemory;
 use rrs_machine::{CsrFile, Inputs, MachineAnswer, Surroundings, run_machine, step_machine};
+use rrs_words::HartProfile;
 use std::alloc::{AllocError, Global};
 use std::process::Abort;
 use std::test::Fail;
@@ -14,6 +15,17 @@ pub const QUIET: Inputs = Inputs {
     software: false,
     timer: false,
     time: 0,
+};
+
+/// The layers of a hart that has `fence.i` alone.
+pub const PLAIN: HartProfile = HartProfile {
+    atomics: false,
+    fence_i: true,
+    misaligned: false,
+    compressed: false,
+    zba: false,
+    zbb: false,
+    zbs: false,
 };
 
 /// Where the word of a step stands.

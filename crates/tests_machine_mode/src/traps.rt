@@ -1,6 +1,6 @@
 //! Each trap, and which interrupt is taken.
 
-use crate::steps::{QUIET, START, holds_at, step_word};
+use crate::steps::{PLAIN, QUIET, START, holds_at, step_word};
 use rrs_lib::HartState;
 use rrs_machine::{CsrFile, Inputs, Interrupt, MachineAnswer, Mode, Profile};
 use std::alloc::{AllocError, Global};
@@ -202,7 +202,7 @@ fn mret_goes_back(rt: HostRuntime) -> Result<(), Fail> {
 /// CSRs of a hart with user mode, in a mode, with the handlers at 0x40.
 fn csrs_in(mode: Mode, mstatus: u32, mcounteren: u32) -> CsrFile {
     let mut csrs = CsrFile::with_profile(Profile {
-        atomics: false,
+        hart: PLAIN,
         user_mode: true,
     });
     csrs.mode = mode;

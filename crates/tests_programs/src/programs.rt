@@ -263,19 +263,21 @@ usage: rrs run|exec|trace|cover|as|dis|elf|board|gdb|help ..
 const QUIET_USAGE: &str = "usage: rrs run [--quiet] FILE LIMIT\n";
 
 /// How `rrs trace` is called.
-const TRACE_USAGE: &str = "usage: rrs trace [--limit STEPS] [--memory BYTES] [--clock fixed] \
-    [--env NAME=VALUE] ..\n    [--from ADDRESS|SYMBOL] [--to ADDRESS|SYMBOL] [--only FUNCTION] \
-    [--steps N-M]\n    [--output FILE] PROGRAM [ARGUMENT] ..\n       \
-    rrs trace --board [--limit STEPS] [--memory BYTES] [--input polled|wait] [--raw]\n           \
-    [--dtb FILE] [--append TEXT] [--symbols FILE] [--from ADDRESS|SYMBOL]\n           \
-    [--to ADDRESS|SYMBOL] [--only FUNCTION] [--steps N-M] [--output FILE] PROGRAM\n";
+const TRACE_USAGE: &str = "usage: rrs trace [--limit STEPS] [--memory BYTES] [--march NAME] \
+    [--clock fixed]\n    [--env NAME=VALUE] .. [--from ADDRESS|SYMBOL] [--to ADDRESS|SYMBOL] \
+    [--only FUNCTION]\n    [--steps N-M] [--output FILE] PROGRAM [ARGUMENT] ..\n       \
+    rrs trace --board [--limit STEPS] [--memory BYTES] [--march NAME]\n           \
+    [--input polled|wait] [--raw] [--dtb FILE] [--append TEXT] [--symbols FILE]\n           \
+    [--from ADDRESS|SYMBOL] [--to ADDRESS|SYMBOL] [--only FUNCTION] [--steps N-M]\n           \
+    [--output FILE] PROGRAM\n";
 
 /// How `rrs cover` is called.
-const COVER_USAGE: &str = "usage: rrs cover [--limit STEPS] [--memory BYTES] [--clock fixed] \
-    [--env NAME=VALUE] ..\n    [--annotate] [--callgrind FILE] [--output FILE] PROGRAM [ARGUMENT] ..\n       \
-    rrs cover --board [--limit STEPS] [--memory BYTES] [--input polled|wait] [--raw]\n           \
-    [--dtb FILE] [--append TEXT] [--symbols FILE] [--annotate] [--callgrind FILE]\n           \
-    [--output FILE] PROGRAM\n";
+const COVER_USAGE: &str = "usage: rrs cover [--limit STEPS] [--memory BYTES] [--march NAME] \
+    [--clock fixed]\n    [--env NAME=VALUE] .. [--annotate] [--callgrind FILE] [--output FILE]\n    \
+    PROGRAM [ARGUMENT] ..\n       \
+    rrs cover --board [--limit STEPS] [--memory BYTES] [--march NAME]\n           \
+    [--input polled|wait] [--raw] [--dtb FILE] [--append TEXT] [--symbols FILE]\n           \
+    [--annotate] [--callgrind FILE] [--output FILE] PROGRAM\n";
 
 /// How `rrs as` is called.
 const ASSEMBLE_USAGE: &str = "usage: rrs as [--gnu | --list] [-o OUTPUT] [--rars] \

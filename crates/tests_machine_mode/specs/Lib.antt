@@ -1,2 +1,0 @@
--- What surroundings of the tests tell.
-pub mod Pulses
