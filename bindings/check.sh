@@ -247,7 +247,7 @@ END
 # Each example is built as people do it, with what a compiler has by itself.
 builds_plainly() {
     local source compiler=gcc
-    for source in three_words uart shadow assemble board lockstep/main; do
+    for source in three_words uart shadow assemble board hart lockstep/main; do
         set -- "$here/c/$source.c"
         [ "$source" != lockstep/main ] || set -- "$@" "$here/c/lockstep/design.c"
         for compiler in gcc "gcc -O2 -flto" "g++ -x c++"; do
@@ -276,7 +276,7 @@ header_is_right() {
 
 examples() {
     local program
-    for program in three_words uart shadow lockstep assemble board; do
+    for program in three_words uart shadow lockstep assemble board hart; do
         case $program in
         lockstep) set -- "$here/c/lockstep/main.c" "$here/c/lockstep/design.c" ;;
         *) set -- "$here/c/$program.c" ;;
@@ -464,12 +464,12 @@ all() {
     try "three_words refuses a library of another version" c_refuses
     try "the library for Python" gcc -shared -o "$room/librrs.so" \
         -Wl,--whole-archive "$library" -Wl,--no-whole-archive
-    try "python: its tests" python_passes 51 1106 16
+    try "python: its tests" python_passes 58 1281 18
     try "python: three_words prints what is stored" python_prints
     try "python: replay answers as is stored" answers python replay.py
     try "python: replay refuses a line with more" refuses_lines python replay.py
     try "python: the structs and constants are those of rrs.h" python_has_layouts
-    finish 51
+    finish 55
 }
 
 # The calls that do more than they may: some write a text where there is room for it, and none for

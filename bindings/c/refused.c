@@ -117,6 +117,25 @@ void rrs_undo(rrs_hart *hart, uint32_t *words, size_t count, uint32_t base,
     (void)hart, (void)words, (void)count, (void)base, (void)change;
 }
 
+rrs_fault rrs_step_hart(rrs_hart *hart, uint32_t *words, size_t count, uint32_t base,
+                        uint32_t profile, rrs_reservation *reservation) {
+    (void)profile, (void)reservation;
+    return rrs_step(hart, words, count, base);
+}
+
+rrs_end rrs_run_hart(rrs_hart *hart, uint32_t *words, size_t count, uint32_t base,
+                     uint32_t profile, rrs_reservation *reservation, uint64_t limit) {
+    (void)profile, (void)reservation;
+    return rrs_run(hart, words, count, base, limit);
+}
+
+rrs_fault rrs_step_hart_rvfi(rrs_hart *hart, uint32_t *words, size_t count, uint32_t base,
+                             uint32_t profile, rrs_reservation *reservation, uint64_t order,
+                             rrs_retired *retired) {
+    (void)profile, (void)reservation;
+    return rrs_step_rvfi(hart, words, count, base, order, retired);
+}
+
 void rrs_csrs_reset(rrs_csrs *csrs) { (void)csrs; }
 
 rrs_outcome rrs_machine_step(rrs_hart *hart, rrs_csrs *csrs, uint32_t *words, size_t count,
@@ -165,6 +184,11 @@ rrs_elf rrs_elf_parse(const uint8_t *file, size_t size) {
     return none;
 }
 
+rrs_elf rrs_elf_parse_hart(const uint8_t *file, size_t size, uint32_t profile) {
+    (void)profile;
+    return rrs_elf_parse(file, size);
+}
+
 rrs_segment rrs_elf_segment(const uint8_t *file, size_t size, uint32_t index) {
     rrs_segment none = {0, 0, 0, 0, 0, 0};
     (void)file, (void)size, (void)index;
@@ -176,6 +200,12 @@ rrs_loaded rrs_elf_load(const uint8_t *file, size_t size, uint32_t *words, size_
     rrs_loaded none = {RRS_ELF_NOT_ELF, 0};
     (void)file, (void)size, (void)words, (void)count, (void)base;
     return none;
+}
+
+rrs_loaded rrs_elf_load_hart(const uint8_t *file, size_t size, uint32_t *words, size_t count,
+                             uint32_t base, uint32_t profile) {
+    (void)profile;
+    return rrs_elf_load(file, size, words, count, base);
 }
 
 rrs_loaded rrs_board_load(rrs_board *board, const uint8_t *file, size_t size, uint32_t *words,

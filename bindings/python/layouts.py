@@ -14,6 +14,7 @@ STRUCTS = {
     "rrs_instruction": rrs._Instruction,
     "rrs_access": rrs._Access,
     "rrs_change": rrs._Change,
+    "rrs_reservation": rrs._Reservation,
     "rrs_csrs": rrs._Csrs,
     "rrs_outcome": rrs._Outcome,
     "rrs_machine_retired": rrs._MachineRetired,
@@ -50,6 +51,10 @@ for row in rrs.Row:
 print("RRS_NO_ACCESS 0")
 for kind in rrs.AccessKind:
     print(f"RRS_{kind.name} {kind.value}")
+for layer in rrs.HartLayer:
+    print(f"RRS_HART_{layer.name} {layer.value}")
+for layer in rrs.MachineLayer:
+    print(f"RRS_MACHINE_{layer.name} {layer.value}")
 for kind in rrs.OutcomeKind:
     print(f"RRS_{kind.name} {kind.value}")
 for event in rrs.BoardEvent:

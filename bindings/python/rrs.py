@@ -41,6 +41,8 @@ __all__ = [
     "Access",
     "AccessKind",
     "Change",
+    "HartLayer",
+    "MachineLayer",
     "Csrs",
     "CsrAccess",
     "MachineRetired",
@@ -53,6 +55,7 @@ __all__ = [
     "compare",
     "decode",
     "disassemble",
+    "expand",
     "row_name",
     "register_name",
     "field_name",
@@ -124,6 +127,10 @@ class _Csrs(ctypes.Structure):
         ("minstret", _u64),
         *((name, _u32) for name in "trapped profile user mcounteren reserved reservation".split()),
     ]
+
+
+class _Reservation(ctypes.Structure):
+    _fields_ = [("reserved", _u32), ("address", _u32)]
 
 
 class _Outcome(ctypes.Structure):
@@ -248,7 +255,10 @@ _compare = _function(
 )
 _cause = _function("rrs_cause", _u32, ctypes.POINTER(_Fault), _u32, _u32)
 _decode = _function("rrs_decode", _Instruction, _u32)
-_disassemble = _function("rrs_disassemble", _size, _u32, _u32, ctypes.c_char_p, _size)
+_disassemble_hart = _function(
+    "rrs_disassemble_hart", _size, _u32, _u32, _u32, ctypes.c_char_p, _size
+)
+_expand = _function("rrs_expand", _u32, _u32)
 _request = _function("rrs_request", _Access, ctypes.POINTER(_Hart), _u32)
 _complete = _function("rrs_complete", _Fault, ctypes.POINTER(_Hart), _u32, _u32, _u32)
 
@@ -261,6 +271,12 @@ _complete_rvfi = _function(
 )
 _step_noted = _function("rrs_step_noted", _Fault, *_memory, ctypes.POINTER(_Change))
 _undo = _function("rrs_undo", None, *_memory, ctypes.POINTER(_Change))
+_profiled = (*_memory, _u32, ctypes.POINTER(_Reservation))
+_step_hart = _function("rrs_step_hart", _Fault, *_profiled)
+_run_hart = _function("rrs_run_hart", _End, *_profiled, _u64)
+_step_hart_rvfi = _function(
+    "rrs_step_hart_rvfi", _Fault, *_profiled, _u64, ctypes.POINTER(_Retired)
+)
 _csrs_reset = _function("rrs_csrs_reset", None, ctypes.POINTER(_Csrs))
 _machine_step = _function(
     "rrs_machine_step",
@@ -276,9 +292,11 @@ _board_reset = _function("rrs_board_reset", None, ctypes.POINTER(_Board), _u32, 
 _board_run = _function("rrs_board_run", _BoardEnd, ctypes.POINTER(_Board), _words, _size, _u64)
 _board_receive = _function("rrs_board_receive", _u32, ctypes.POINTER(_Board), _u32)
 _board_waits_for_input = _function("rrs_board_waits_for_input", _u32, ctypes.POINTER(_Board))
-_elf_parse = _function("rrs_elf_parse", _Elf, ctypes.c_char_p, _size)
+_elf_parse_hart = _function("rrs_elf_parse_hart", _Elf, ctypes.c_char_p, _size, _u32)
 _elf_segment = _function("rrs_elf_segment", _Segment, ctypes.c_char_p, _size, _u32)
-_elf_load = _function("rrs_elf_load", _Loaded, ctypes.c_char_p, _size, _words, _size, _u32)
+_elf_load_hart = _function(
+    "rrs_elf_load_hart", _Loaded, ctypes.c_char_p, _size, _words, _size, _u32, _u32
+)
 _board_load = _function(
     "rrs_board_load", _Loaded, ctypes.POINTER(_Board), ctypes.c_char_p, _size, _words, _size
 )
@@ -424,11 +442,15 @@ Row = enum.IntEnum(
     "Row",
     "ADD SUB SLL SLT SLTU XOR SRL SRA OR AND ADDI SLLI SLTI SLTIU XORI SRLI SRAI ORI ANDI LUI AUIPC "
     "BEQ BNE BLT BLTU BGE BGEU LB LBU LH LHU LW SB SH SW JAL JALR MUL MULH MULHU MULHSU DIV DIVU REM "
-    "REMU FENCE ECALL EBREAK CSRRW CSRRS CSRRC CSRRWI CSRRSI CSRRCI MRET WFI FENCE_I LR_W SC_W "
-    "AMOSWAP_W AMOADD_W AMOXOR_W AMOAND_W AMOOR_W AMOMIN_W AMOMAX_W AMOMINU_W AMOMAXU_W",
+    "REMU FENCE ECALL EBREAK "
+    # the layers, as docs/check --write writes them
+    "CSRRW CSRRS CSRRC CSRRWI CSRRSI CSRRCI MRET WFI FENCE_I LR_W SC_W AMOSWAP_W AMOADD_W AMOXOR_W "
+    "AMOAND_W AMOOR_W AMOMIN_W AMOMAX_W AMOMINU_W AMOMAXU_W SH1ADD SH2ADD SH3ADD ANDN ORN XNOR CLZ "
+    "CTZ CPOP MAX MAXU MIN MINU SEXT_B SEXT_H ZEXT_H ROL ROR RORI ORC_B REV8 BCLR BCLRI BEXT BEXTI "
+    "BINV BINVI BSET BSETI",
 )
 Row.__doc__ = """The rows of the table, 1 to 48, as decode() numbers them, and the instructions above it:
-those on CSRs, mret, wfi and fence.i, and extension A."""
+those on CSRs, mret, wfi and fence.i, extension A, and Zba, Zbb and Zbs."""
 
 
 class AccessKind(enum.IntEnum):
@@ -451,7 +473,7 @@ class Access(NamedTuple):
 class Instruction(NamedTuple):
     """The number of a row, one of Row, and its fields, 0 where its format has none. The immediate of
     ecall is 0 and of ebreak 1, and fence has any. That of an instruction on a CSR is the number of the
-    CSR, and that of one of extension A is 2 for aq and 1 for rl."""
+    CSR, and that of one of extension A is 2 for aq and 1 for rl. An amount is shamt."""
 
     row: int
     rd: int
@@ -473,6 +495,37 @@ class Change(NamedTuple):
     address: int
     size: int
     bytes: int
+
+
+class HartLayer(enum.IntFlag):
+    """What a hart has beside RV32IM, as the profile of Machine.step_hart: extension A; fence.i, which
+    does nothing, since each fetch reads what was stored; loads and stores at misaligned addresses;
+    extension C, instructions of 16 bits; and Zba, Zbb and Zbs, of bit manipulation.
+    ``HartLayer.A + HartLayer.C`` is a profile."""
+
+    A = 1
+    ZIFENCEI = 2
+    MISALIGNED = 4
+    C = 8
+    ZBA = 32
+    ZBB = 64
+    ZBS = 128
+
+
+class MachineLayer(enum.IntFlag):
+    """What a hart with machine mode has beside RV32IM, as the profile of Csrs and Board: extension
+    A; user mode; extension C; loads and stores at misaligned addresses; that it lacks fence.i; and
+    Zba, Zbb and Zbs.
+    """
+
+    A = 1
+    USER_MODE = 2
+    C = 4
+    MISALIGNED = 8
+    NO_FENCE_I = 16
+    ZBA = 32
+    ZBB = 64
+    ZBS = 128
 
 
 class OutcomeKind(enum.IntEnum):
@@ -549,9 +602,9 @@ class Csrs:
     """The CSRs of a hart that has machine mode alone, as they are at reset.
 
     Each field of ``rrs_csrs`` is an attribute: ``csrs.mtvec = 0x80000100``. ``trapped`` is no CSR: it
-    is 1 where the latest step took a trap. With ``csrs.profile = 2`` the hart has user mode, and
-    ``user`` is 1 where it is in it. A copy has CSRs of its own, and the attributes that a
-    subclass added.
+    is 1 where the latest step took a trap. ``profile`` is the sum of some MachineLayer: with
+    ``MachineLayer.USER_MODE`` the hart has user mode, and ``user`` is 1 where it is in it. A copy
+    has CSRs of its own, and the attributes that a subclass added.
     """
 
     mstatus: int
@@ -721,7 +774,7 @@ _IN_FUNCTION = 1
 
 
 class ElfError(ValueError):
-    """Bytes that are no executable for this machine: ``refusal`` names why, as rrs.h has it, and
+    """Bytes that are no executable for this hart: ``refusal`` names why, as rrs.h has it, and
     ``number`` and ``other`` are the numbers that it tells, or 0. ``"NOT_IN_WORDS"`` is the refusal
     of a load, whose number is the address that is not in the words."""
 
@@ -754,15 +807,17 @@ class Location(NamedTuple):
 
 
 class Elf:
-    """An executable in the ELF format, of the bytes of its file.
+    """An executable in the ELF format, of the bytes of its file, for a hart with a profile, the sum
+    of some HartLayer: with ``HartLayer.C`` it may have compressed code.
 
-    An ElfError is raised where they are none for this machine.
+    An ElfError is raised where they are none for this hart.
     """
 
-    def __init__(self, file: bytes) -> None:
+    def __init__(self, file: bytes, profile: int = 0) -> None:
         self._file = bytes(file)
         self._arguments = (self._file, len(self._file))
-        elf = _elf_parse(*self._arguments)
+        self.profile = _word_of(profile)
+        elf = _elf_parse_hart(*self._arguments, self.profile)
         if elf.refusal:
             raise ElfError(_ElfRefusal(elf.refusal).name, elf.number, elf.other)
         self.entry, self.count = elf.entry, elf.segments
@@ -782,7 +837,7 @@ class Elf:
     def load(self, machine: Machine) -> None:
         """Loads the segments into a machine's memory. An ElfError ``"NOT_IN_WORDS"`` is raised at an
         address that is not in its words; the bytes before it are loaded."""
-        loaded = _elf_load(*self._arguments, *machine._arguments[1:])
+        loaded = _elf_load_hart(*self._arguments, *machine._arguments[1:], self.profile)
         if loaded.refusal:
             raise ElfError("NOT_IN_WORDS", loaded.address)
 
@@ -953,6 +1008,7 @@ class Machine:
             self._base,
         )
         self._lend(_Cache())
+        self._reserved = _Reservation()
         self._record = _Retired()
         self._recorded = ctypes.byref(self._record)
 
@@ -963,17 +1019,19 @@ class Machine:
         self._cached = (hart, ctypes.byref(cache), *words)
 
     @classmethod
-    def from_elf(cls, path: str, size: Optional[int] = None) -> Machine:
+    def from_elf(cls, path: str, size: Optional[int] = None, profile: int = 0) -> Machine:
         """The machine of an executable in the ELF format: its memory begins with the page of its
         first address, 4,096 bytes, and its segments stand there; the pc is its entry. ``size`` is
         the number of words of memory, at least those up to its last segment's end, which is what it
         is without it. ``elf`` is the Elf, with the symbols: ``machine.elf.function_at(machine.pc)``.
+        With ``HartLayer.C`` in ``profile`` the file may have compressed code, which step_hart and
+        run_hart execute by ``machine.elf.profile``.
 
-        An ElfError is raised where the file is no executable for this machine. The stack pointer is
+        An ElfError is raised where the file is no executable for this hart. The stack pointer is
         0, and the caller sets it.
         """
         with open(path, "rb") as file:
-            elf = Elf(file.read())
+            elf = Elf(file.read(), profile)
         segments = [segment for segment in elf.segments if segment.memory_size]
         base = min(segment.address for segment in segments)
         base -= base % 4096
@@ -1014,6 +1072,16 @@ class Machine:
         """The number of the register that the latest step wrote, or None."""
         return self._hart.last if 0 < self._hart.last < 32 else None
 
+    @property
+    def reservation(self) -> Optional[int]:
+        """The address that the hart has reserved by lr.w, or None. Steps by a profile change it."""
+        return self._reserved.address if self._reserved.reserved == 1 else None
+
+    @reservation.setter
+    def reservation(self, value: Optional[int]) -> None:
+        self._reserved.address = 0 if value is None else _word_of(value)
+        self._reserved.reserved = value is not None
+
     def step(self) -> Optional[Fault]:
         """Executes the instruction at the pc. Returns the Fault, or None."""
         return _fault_of(_step(*self._arguments))
@@ -1028,6 +1096,33 @@ class Machine:
         multiple of 4 faults itself, as in a core whose IALIGN is 32."""
         fault = _step_rvfi_ialign32(*self._arguments, _long_of(order, "order"), self._recorded)
         return _fault_of(fault), _new(Retired, _record(self._record))
+
+    def step_hart(self, profile: int) -> Optional[Fault]:
+        """Executes the instruction at the pc as a hart with a profile does, the sum of some
+        HartLayer. Returns the Fault, or None. ``reservation`` goes from one step to the next.
+
+        >>> machine = Machine([0x0000_0515])  # c.addi x10, 5
+        >>> machine.step_hart(HartLayer.C), machine.registers[10], machine.pc
+        (None, 5, 2)
+        """
+        return _fault_of(_step_hart(*self._profiled(profile)))
+
+    def run_hart(self, limit: int, profile: int) -> End:
+        """Makes steps of a hart with a profile until ``limit`` were made, or one faults. Returns
+        the End."""
+        return _end_of(_run_hart(*self._profiled(profile), _long_of(limit, "limit")))
+
+    def step_hart_rvfi(self, profile: int, order: int = 0) -> Tuple[Optional[Fault], Retired]:
+        """Does what step_hart does. Returns the Fault or None, and what the step Retired: a short
+        instruction has its 16 bits as ``insn``, an AMO has both masks, and a misaligned load or
+        store is one access of all its bytes."""
+        order = _long_of(order, "order")
+        fault = _step_hart_rvfi(*self._profiled(profile), order, self._recorded)
+        return _fault_of(fault), _new(Retired, _record(self._record))
+
+    def _profiled(self, profile: int) -> tuple:
+        """The arguments of a call for a hart with a profile."""
+        return (*self._arguments, _word_of(profile), ctypes.byref(self._reserved))
 
     def step_noted(self) -> Tuple[Optional[Fault], Change]:
         """Executes the instruction at the pc. Returns the Fault or None, and the Change that takes
@@ -1146,7 +1241,7 @@ class Machine:
         return _fault_of(fault), _new(Retired, _record(self._record))
 
     def __reduce__(self) -> tuple:
-        own = (bytes(self._memory), self._base, bytes(self._hart))
+        own = (bytes(self._memory), self._base, bytes(self._hart), self.reservation)
         return _restored, (type(self), *own), _added(self, *_OWN)
 
     def __repr__(self) -> str:
@@ -1156,11 +1251,12 @@ class Machine:
 _OWN = frozenset(vars(Machine([])))  # the attributes that a copy has of its own
 
 
-def _restored(kind, memory, base, hart):
+def _restored(kind, memory, base, hart, reservation):
     """The machine that was copied, or pickled, of a class whose __init__ may be another."""
     machine = kind.__new__(kind)
     Machine.__init__(machine, memory, base)
     ctypes.memmove(machine._arguments[0], hart, len(hart))
+    machine.reservation = reservation
     return machine
 
 
@@ -1170,12 +1266,26 @@ def decode(word: int) -> Optional[Instruction]:
     return _new(Instruction, fields) if fields[0] else None
 
 
-def disassemble(word: int, pc: int = 0) -> Optional[str]:
+def disassemble(word: int, pc: int = 0, profile: int = 0) -> Optional[str]:
     """The text of the instruction that a word is at the address ``pc``, and None for an illegal
-    instruction. One above the table, as csrrw and lr.w, has its text too."""
+    instruction. One above the table, as csrrw and lr.w, has its text too. With ``HartLayer.C`` in
+    ``profile`` it is that of the half-word in the low bits, where the lowest two are not 11.
+
+    >>> disassemble(0x4515, 0, HartLayer.C)
+    'c.li x10, 5'
+    """
     text = ctypes.create_string_buffer(_TEXT_SIZE)
-    length = _disassemble(_word_of(word), _word_of(pc), text, _TEXT_SIZE)
+    length = _disassemble_hart(_word_of(word), _word_of(pc), _word_of(profile), text, _TEXT_SIZE)
     return text.raw[:length].decode("ascii") if length else None
+
+
+def expand(half: int) -> Optional[int]:
+    """The word that a compressed instruction of 16 bits stands for, and None where it is none.
+
+    >>> disassemble(expand(0x4515))
+    'addi x10, x0, 5'
+    """
+    return _expand(_word_of(half)) or None
 
 
 def row_name(row: int) -> Optional[str]:
@@ -1197,7 +1307,7 @@ class Board:
     """A board at reset: a hart with machine mode, and the devices of QEMU's ``virt`` at its
     addresses, a UART, a CLINT and a finisher. RAM is words from 0x80000000 on, and begins with an
     image, bytes or words. ``size`` is the number of its words, at least those of the image; the
-    others are 0. ``profile`` says what the hart has more: 1 is extension A, and 2 user mode.
+    others are 0. ``profile`` says what the hart has more, the sum of some MachineLayer.
 
     >>> board = Board(assemble("lui x1, 0x10000\\n li x2, 65\\n sb x2, 0(x1)").bytes)
     >>> board.run(10)
@@ -1276,7 +1386,8 @@ class Board:
 
     def load(self, file: bytes) -> None:
         """Loads an executable in the ELF format, of the bytes of its file: each segment at its
-        physical address. The hart is then at its entry.
+        physical address. The hart is then at its entry. With ``MachineLayer.C`` in the profile of
+        the board the file may have compressed code.
 
         An ElfError is raised where the file is refused, and one ``"NOT_IN_WORDS"`` at an address
         that is not in RAM. The hart stays then.

@@ -26,6 +26,7 @@ from unittest import mock
 import rrs
 from core_check import PORTS, check_core
 from rrs import Access, AccessKind, End, Fault, FaultKind, Machine
+from rrs import HartLayer as LAYER
 
 
 class Counted(unittest.TestCase):
@@ -90,6 +91,13 @@ BODY += struct.pack("<16xIIIBBH4s", 1, 0x12F44, 4, 0x12, 0, 1, b"\0f\xff")
 BODY += struct.pack("<40x20I", 0, 2, 0, 0, 156, 32, 2, 1, 4, 16, 0, 3, 0, 0, 188, 4, 0, 0, 1, 0)
 
 
+# what gcc with -march=rv32imac makes of `c.nop; _start: c.li a0, 5; c.j on; c.ebreak; on: c.addi a0, 1;
+# c.ebreak`, linked to 0x80000000, but for the sections
+SHORT = bytes.fromhex(
+    "7f454c460101010000000000000000000200f3000100000002000080340000000000000001000000340020000100280000000000"
+    "010000005400000000000080000000800c0000000c00000007000000020000000100154511a0029005050290")
+
+
 class Faces(Counted):
     def test_faults_and_ends_are_shown(self):
         shown = {
@@ -141,10 +149,10 @@ class Faces(Counted):
         self.assertEqual(faults, ["illegal instruction", "fetch access fault", "load access fault",
                                   "store access fault", "misaligned address", "environment call",
                                   "breakpoint"])
-        for name in (rrs.row_name(0), rrs.row_name(69), rrs.register_name(32), rrs.register_name(-1),
+        for name in (rrs.row_name(0), rrs.row_name(98), rrs.register_name(32), rrs.register_name(-1),
                      rrs.field_name(17), Fault(8, 0, 0).name):
             self.assertIsNone(name)
-        self.assertEqual((len(rrs.Row), len(rrs.Field), rrs.field_name(0)), (68, 16, "same"))
+        self.assertEqual((len(rrs.Row), len(rrs.Field), rrs.field_name(0)), (97, 16, "same"))
 
     def test_each_function_has_the_arguments_of_the_header(self):
         types = {"void": None, "uint32_t": rrs._u32, "uint64_t": rrs._u64, "size_t": rrs._size,
@@ -232,6 +240,7 @@ class Faces(Counted):
         self.assertEqual(type(found.field), rrs.Field)
         self.assertEqual(rrs.disassemble(0x0000006F), "jal x0, 0x00000000")
         self.assertEqual((rrs.decode(-1), rrs.disassemble(-1)), (None, None))
+        self.assertEqual((rrs.disassemble(0x4515), rrs.expand(0), rrs.expand(0x14515)), (None, None, 0x00500513))
 
     def test_orders_and_limits_have_64_bits(self):
         machine = Machine([0x00108093] * 4)  # addi x1, x1, 1
@@ -241,6 +250,8 @@ class Faces(Counted):
             self.assertRaises(ValueError, machine.step_rvfi, order=number)
             self.assertRaises(ValueError, machine.run, number)
             self.assertRaises(ValueError, machine.run_until, [], number)
+            self.assertRaises(ValueError, machine.run_hart, number, 0)
+            self.assertRaises(ValueError, machine.step_hart_rvfi, 0, number)
         self.assertEqual((machine.pc, machine.registers[1]), (4, 1))
 
     def test_stops_are_any_iterable(self):
@@ -275,6 +286,92 @@ class Faces(Counted):
             self.assertEqual((fault, record.order, record.trap, machine.pc), (wanted, 3, int(bool(wanted)),
                                                                              0 if wanted else 2))
             self.assertEqual(type(fault), Fault if wanted else type(None))
+
+    def test_a_hart_has_atomics_by_its_profile(self):
+        # amoadd.w x4, x2, (x1); addi x3, x3, -1; bne x3, x0, -8; ebreak
+        machine = Machine([0x0020A22F, 0xFFF18193, 0xFE019CE3, 0x00100073], 0x1000, 13)
+        machine.registers[1], machine.registers[2], machine.registers[3] = 0x1030, 3, 10
+        self.assertEqual(machine.run_hart(0, LAYER.A), (0, None, False))
+        self.assertEqual(machine.pc, 0x1000)
+        self.assertEqual(machine.run_hart(100, LAYER.A), (30, (FaultKind.EBREAK, 0x100C, 0), False))
+        self.assertEqual((machine.memory[12], machine.registers[4]), (30, 27))
+        machine.pc = 0x1000
+        fault, record = machine.step_hart_rvfi(LAYER.A, 7)
+        self.assertEqual((fault, record), (None, (7, 0x0020A22F, 1, 0, 0x1000, 0x1004, 1, 0x1030, 2, 3, 4,
+                                                  30, 0x1030, 15, 15, 30, 33)))
+        self.assertIsNone(rrs.compare(record, record, True))
+        other = rrs.compare(record, record._replace(mem_wdata=34), True)
+        self.assertEqual(other, (rrs.Field.MEM_WDATA, 33, 34))
+        machine.pc = 0x1000
+        refused = (FaultKind.ILLEGAL_INSTRUCTION, 0x1000, 0x0020A22F)
+        for profile in (0, LAYER.ZIFENCEI | LAYER.MISALIGNED | LAYER.C, -2, 16):
+            self.assertEqual((machine.step_hart(profile), machine.memory[12]), (refused, 33))
+        machine.memory[0] = 0x0000100F  # fence.i
+        self.assertEqual(machine.step_hart(~LAYER.ZIFENCEI & 15).kind, FaultKind.ILLEGAL_INSTRUCTION)
+        self.assertIsNone(machine.step_hart(LAYER.ZIFENCEI))
+
+    def test_a_hart_has_bit_manipulation_by_its_profile(self):
+        # sh2add x3, x1, x2; andn x3, x1, x2; bseti x3, x1, 31
+        machine = Machine([0x2020C1B3, 0x4020F1B3, 0x29F09193], 0)
+        machine.registers[1], machine.registers[2] = 0x1030, 3
+        for pc, layer, name, value in ((0, LAYER.ZBA, "sh2add x3, x1, x2", 0x40C3),
+                                       (4, LAYER.ZBB, "andn x3, x1, x2", 0x1030),
+                                       (8, LAYER.ZBS, "bseti x3, x1, 31", 0x80001030)):
+            word = machine.memory[pc // 4]
+            self.assertEqual(rrs.disassemble(word), name)
+            self.assertEqual(machine.step_hart(255 - layer), (FaultKind.ILLEGAL_INSTRUCTION, pc, word))
+            self.assertIsNone(machine.step_hart(layer))
+            self.assertEqual((machine.pc, machine.registers[3]), (pc + 4, value))
+        self.assertEqual(rrs.decode(0x29F09193), (rrs.Row.BSETI, 3, 1, 0, 31, 0))
+        self.assertEqual(rrs.row_name(rrs.Row.BSETI), "bseti")
+
+    def test_a_reservation_goes_from_a_step_to_the_next(self):
+        machine = Machine([0x1000A2AF, 0x1820A32F], 0, 3)  # lr.w x5, (x1); sc.w x6, x2, (x1)
+        machine.registers[1], machine.registers[2], machine.memory[2] = 8, 3, 40
+        self.assertIsNone(machine.reservation)
+        machine.step_hart(LAYER.A)
+        self.assertEqual((machine.reservation, machine.registers[5]), (8, 40))
+        for kept, given, word in ((True, 0, 3), (False, 1, 40)):
+            for other in (copy.copy(machine), pickle.loads(pickle.dumps(machine))):
+                self.assertEqual(other.reservation, 8)
+                other.reservation = other.reservation if kept else None
+                self.assertIsNone(other.step_hart(LAYER.A))
+                self.assertEqual((other.registers[6], other.memory[2], other.reservation),
+                                 (given, word, None))
+        machine.registers[1] = machine.reservation = 9
+        self.assertEqual(machine.step_hart(15), (FaultKind.MISALIGNED, 9, 0))
+        self.assertIsNone(machine.reservation)
+        machine.reservation = 0
+        self.assertEqual(machine.reservation, 0)
+        self.assertRaises(ValueError, setattr, machine, "reservation", 2**32)
+
+    def test_a_hart_makes_misaligned_accesses_by_its_profile(self):
+        machine = Machine([0x0010A403, 0x0020A323, 0x44332211, 0x88776655])  # lw x8, 1(x1); sw x2, 6(x1)
+        machine.registers[1], machine.registers[2] = 8, 3
+        self.assertEqual(machine.step_hart(11), (FaultKind.MISALIGNED, 9, 0))
+        fault, record = machine.step_hart_rvfi(LAYER.MISALIGNED)
+        self.assertEqual((fault, record.rd_addr), (None, 8))
+        self.assertEqual(record[11:], (0x55443322, 9, 15, 0, 0x55443322, 0))
+        machine.registers[1] = 4  # bytes 10 to 13
+        self.assertEqual(machine.step_hart_rvfi(LAYER.MISALIGNED)[1][12:], (10, 0, 15, 0, 3))
+        self.assertEqual(machine.memory[2:], [0x00032211, 0x88770000])
+
+    def test_a_hart_has_short_instructions_by_its_profile(self):
+        # c.addi x10, 5; c.jalr x11; c.ebreak; c.nop; c.lwsp x12, 4(x2)
+        machine = Machine([0x95820515, 0x00019002, 0x4612, 7, 0x12345678])
+        machine.registers[2], machine.registers[11] = 12, 8
+        for insn, pc, after, register, value in (
+            (0x0515, 0, 2, 10, 5), (0x9582, 2, 8, 1, 4), (0x4612, 8, 10, 12, 0x12345678),
+        ):
+            fault, record = machine.step_hart_rvfi(LAYER.C)
+            self.assertEqual((fault, record.insn, record.pc_rdata, record.pc_wdata),
+                             (None, insn, pc, after))
+            self.assertEqual((record.rd_addr, record.rd_wdata, machine.last), (register, value, register))
+        self.assertEqual(machine.step_hart(LAYER.C), (FaultKind.ILLEGAL_INSTRUCTION, 10, 0))
+        for pc, profile in ((1, LAYER.C), (2, LAYER.A)):
+            machine.pc = pc
+            self.assertEqual(machine.run_hart(2, profile), (0, (FaultKind.MISALIGNED, pc, 0), False))
+        self.assertEqual(machine.step_hart(LAYER.C), None)
 
     def test_a_step_of_machine_mode_tells_all(self):
         # csrrw x2, mtvec, x1; csrrs x3, timeh, x0; ecall; csrrwi x0, mepc, 9
@@ -318,11 +415,14 @@ class Faces(Counted):
             (machine.step_rvfi_ialign32, 1), (aside.step_rvfi_ialign32,), (machine.step_noted,),
             (aside.step_noted,), (machine.undo, [0] * 7), (machine.run, 1), (aside.run, 1),
             (machine.run, 1, lambda access: 0), (machine.run_until, {8}, 1), (machine.request, 0x2003),
+            (machine.step_hart, 0), (aside.step_hart, 0), (machine.run_hart, 1, 8), (aside.run_hart, 1, 0),
+            (machine.step_hart_rvfi, 0, 1), (aside.step_hart_rvfi, 0),
             (machine.request, 0x13), (machine.request, 0), (machine.complete, 0x13, 0), (machine.complete, 0, None),
             (machine.complete_rvfi, 0x13, 0), (machine.complete_rvfi, 0, None), (machine.machine_step, csrs),
             (aside.machine_step, csrs), (csrs.read, 0x300), (csrs.read, 0), (csrs.write, 0x300, 0),
             (rrs.assemble, ""), (rrs.assemble, b"a: nop", 4), (rrs.decode, 0x13), (rrs.decode, 0),
-            (rrs.disassemble, 0x13), (rrs.disassemble, 0, 4), (rrs.row_name, 1), (rrs.row_name, 0),
+            (rrs.disassemble, 0x13), (rrs.disassemble, 0, 4), (rrs.disassemble, 0x4515, 0, 8),
+            (rrs.expand, 0x4515), (rrs.expand, 0), (rrs.row_name, 1), (rrs.row_name, 0),
             (rrs.register_name, 1), (rrs.register_name, 32), (rrs.field_name, 1), (rrs.field_name, 99),
             (rrs.compare, [0] * 17, [0] * 17), (rrs.compare, (0,) * 17, range(17), True),
             (Fault(FaultKind.ECALL, 0, 0).cause, 0, 0x73), (rrs.Board, [1], 4, 3), (board.run, 1),
@@ -630,6 +730,36 @@ class Faces(Counted):
             machine.elf.load(Machine([0], base=0x12F40))
         self.assertEqual((caught.exception.refusal, caught.exception.number), ("NOT_IN_WORDS", 0x12F44))
 
+    def test_an_executable_with_compressed_code_is_for_a_hart_that_has_it(self):
+        with tempfile.NamedTemporaryFile() as file:
+            file.write(SHORT)
+            file.flush()
+            machine = Machine.from_elf(file.name, profile=LAYER.C | LAYER.A)
+            with self.assertRaises(rrs.ElfError) as caught:
+                Machine.from_elf(file.name)
+        self.assertEqual((machine.base, machine.pc, len(machine.memory)), (2**31, 2**31 + 2, 3))
+        end = machine.run_hart(9, machine.elf.profile)
+        self.assertEqual((end.steps, machine.registers[10]), (3, 6))
+        self.assertEqual(end.fault, Fault(FaultKind.EBREAK, 2**31 + 10, 0))
+        self.assertEqual((caught.exception.refusal, machine.elf.segments),
+                         ("COMPRESSED_CODE", [rrs.Segment(2**31, 12, 84, 12, 7)]))
+        file = bytearray(HEAD + BODY)
+        file[24], file[36] = 0x46, 1
+        self.assertEqual(rrs.Elf(file, LAYER.C).function_at(0x12F46), ("f\udcff", 2, True))
+        for at, value, profile, refusal in ((24, 0x45, LAYER.C, "ENTRY_MISALIGNED"),
+                                            (36, 3, 15, "FLOATING_POINT"), (36, 1, 7, "COMPRESSED_CODE")):
+            with self.assertRaises(rrs.ElfError) as caught:
+                rrs.Elf(file[:at] + bytes([value]) + file[at + 1:], profile)
+            self.assertEqual(caught.exception.refusal, refusal)
+        self.assertRaises(ValueError, rrs.Elf, SHORT, 2**32)
+        board = rrs.Board([], 4, rrs.MachineLayer.C)
+        board.load(SHORT)
+        self.assertEqual((board.pc, board.run(3).steps, board.pc, board.registers[10]),
+                         (2**31 + 2, 3, 2**31 + 10, 6))
+        with self.assertRaises(rrs.ElfError) as caught:
+            rrs.Board([], 4, 31 - rrs.MachineLayer.C).load(SHORT)
+        self.assertEqual(caught.exception.refusal, "COMPRESSED_CODE")
+
     def test_each_refusal_of_an_executable_is_told(self):
         cut, named = len(HEAD + BODY), set()
         for at, size, value, *wanted in (
@@ -680,6 +810,14 @@ class Faces(Counted):
         self.assertEqual((outcome.cause, seen.mode, csrs.user, csrs.profile), (8, 0, 0, 2))
         self.assertEqual((csrs.write(0x300, 0x1800), csrs.read(0x300)), (True, 0x1800))
         self.assertEqual((csrs.write(0x300, 0x0800), csrs.read(0x300)), (True, 0x1800))
+
+    def test_csrs_keep_each_profile(self):
+        csrs = rrs.Csrs()
+        for profile in range(32):
+            csrs.profile = profile
+            self.assertTrue(csrs.write(0x340, profile))
+            misa = 0x40001100 + (profile & 5) + (0x100000 if profile & rrs.MachineLayer.USER_MODE else 0)
+            self.assertEqual((csrs.profile, csrs.read(0x301), csrs.mscratch), (profile, misa, profile))
 
     def test_csrs_with_extension_a(self):
         # amoadd.w x5, x6, (x7); lr.w x5, (x7); sc.w x5, x6, (x7); sc.w x5, x6, (x7)
@@ -978,7 +1116,8 @@ class Libraries(Counted):
     def test_an_unknown_kind_is_an_error(self):
         folder = os.environ["RRS_REFUSED"]
         for call in ("step()", "run(1)", "run_until([], 1)", "step_rvfi()", "complete(0, 0)",
-                     "step_rvfi_ialign32()", "complete_rvfi(0, 0)", "step_noted()"):
+                     "step_rvfi_ialign32()", "complete_rvfi(0, 0)", "step_noted()", "step_hart(0)",
+                     "run_hart(1, 0)", "step_hart_rvfi(0)"):
             lines = f"import rrs\nrrs.Machine([0]).{call}"
             status, _, said = self.run_over(f"{folder}/kind.so", lines)
             self.assertIn("ValueError: 9 is not a valid FaultKind", said)

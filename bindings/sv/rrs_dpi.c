@@ -133,6 +133,44 @@ uint32_t rrs_dpi_step_ialign32(void *handle, unsigned long long order, uint32_t 
                 rd_addr, rd_wdata, mem_addr, mem_rmask, mem_wmask, mem_rdata, mem_wdata);
 }
 
+/* rrs_step_hart_rvfi, over the reservation of the instance, in the same way. */
+uint32_t rrs_dpi_step_hart(void *handle, uint32_t profile, unsigned long long order,
+                           uint32_t *insn, uint32_t *trap, uint32_t *pc_rdata, uint32_t *pc_wdata,
+                           uint32_t *rs1_addr, uint32_t *rs1_rdata, uint32_t *rs2_addr,
+                           uint32_t *rs2_rdata, uint32_t *rd_addr, uint32_t *rd_wdata,
+                           uint32_t *mem_addr, uint32_t *mem_rmask, uint32_t *mem_wmask,
+                           uint32_t *mem_rdata, uint32_t *mem_wdata) {
+    struct rrs_dpi *model = handle;
+    model->fault = rrs_step_hart_rvfi(&model->hart, model->words, model->count, model->base,
+                                      profile, &model->reservation, order, &model->record);
+    return give(model, insn, trap, pc_rdata, pc_wdata, rs1_addr, rs1_rdata, rs2_addr, rs2_rdata,
+                rd_addr, rd_wdata, mem_addr, mem_rmask, mem_wmask, mem_rdata, mem_wdata);
+}
+
+/* rrs_run_hart, over the reservation of the instance. Returns the kind of the exception. */
+uint32_t rrs_dpi_run_hart(void *handle, uint32_t profile, unsigned long long limit,
+                          unsigned long long *steps) {
+    struct rrs_dpi *model = handle;
+    rrs_end end = rrs_run_hart(&model->hart, model->words, model->count, model->base, profile,
+                               &model->reservation, limit);
+    model->fault = end.fault;
+    *steps = end.steps;
+    return end.fault.kind;
+}
+
+/* Whether an address is reserved, and which. */
+uint32_t rrs_dpi_reservation(void *handle, uint32_t *address) {
+    const struct rrs_dpi *model = handle;
+    *address = model->reservation.address;
+    return model->reservation.reserved;
+}
+
+void rrs_dpi_set_reservation(void *handle, uint32_t reserved, uint32_t address) {
+    struct rrs_dpi *model = handle;
+    model->reservation.reserved = reserved == 1;
+    model->reservation.address = reserved == 1 ? address : 0;
+}
+
 /* rrs_complete_rvfi, in the same way. */
 uint32_t rrs_dpi_complete_rvfi(void *handle, uint32_t word, uint32_t granted, uint32_t value,
                                unsigned long long order, uint32_t *insn, uint32_t *trap,
@@ -262,10 +300,16 @@ uint32_t rrs_dpi_complete(void *handle, uint32_t word, uint32_t granted, uint32_
     return model->fault.kind;
 }
 
-/* The text of a word at an address, up to the next call over this instance. */
-const char *rrs_dpi_text(void *handle, uint32_t word, uint32_t pc) {
+/* The text of what the hart of a profile executes of a word at an address, up to the next call over
+ * this instance. */
+const char *rrs_dpi_text_hart(void *handle, uint32_t word, uint32_t pc, uint32_t profile) {
     struct rrs_dpi *model = handle;
-    if (rrs_disassemble(word, pc, model->text, sizeof model->text) == 0)
+    if (rrs_disassemble_hart(word, pc, profile, model->text, sizeof model->text) == 0)
         strcpy(model->text, "illegal instruction");
     return model->text;
+}
+
+/* The text of a word at an address. */
+const char *rrs_dpi_text(void *handle, uint32_t word, uint32_t pc) {
+    return rrs_dpi_text_hart(handle, word, pc, 0);
 }

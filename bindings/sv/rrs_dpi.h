@@ -14,6 +14,7 @@ struct rrs_dpi {
     uint32_t *words;
     rrs_retired record; /* what the latest step retired, also one that was completed */
     rrs_fault fault;    /* the exception of the latest step */
+    rrs_reservation reservation; /* what is reserved, for the steps of a profile alone */
     rrs_csrs csrs;      /* the CSRs, for rrs_dpi_machine_step alone */
     rrs_machine_retired machine; /* what its latest step retired */
     char text[RRS_TEXT_SIZE]; /* the latest text or name */
