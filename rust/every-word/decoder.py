@@ -1,13 +1,15 @@
 #!/usr/bin/env python3
-"""Writes a decoder of RV32IM in C that is QEMU's: its table, insn32.decode, through its own generator,
-decodetree.py, which makes of it a tree of tests that call trans_NAME with the fields of the word.
-What is written here is these functions: for a name of RV32IM one that stores its row and its fields,
-and for each other name one that refuses the word, as QEMU does where the hart has not that extension.
+"""Writes a decoder of RV32IMC in C that is QEMU's: its tables, insn32.decode and insn16.decode, through
+its own generator, decodetree.py, which makes of each a tree of tests that call trans_NAME with the
+fields of the word. For a half-word that is the row that it stands for. What is written here is these
+functions: for a name of RV32IM one that stores its row and its fields, and for each other name one that
+refuses the word, as QEMU does where the hart has not that extension.
 
 usage: decoder.py QEMU INTO
 
-QEMU is the folder of its source. INTO/decoder.c has `qemu_decode`, and INTO/names.rs the names of the
-rows in the order of its numbers. The status is 0, or 1 where the table has not what is looked for."""
+QEMU is the folder of its source. INTO/decoder.c has `qemu_decode` and `qemu_decode_half`, and
+INTO/names.rs the names of the rows in the order of its numbers. The status is 0, or 1 where the table
+has not what is looked for."""
 import pathlib
 import re
 import subprocess
@@ -39,6 +41,9 @@ STORED = {
 WITHOUT_FORMAT = ("fence", "ecall", "ebreak")
 FENCE = "if ((i.imm >> 4 & 15) != a->pred || (i.imm & 15) != a->succ) abort();"
 
+# QEMU's trans_illegal takes a half-word, so that no row behind it does.
+ILLEGAL = "d->row = UINT32_MAX; return true;"
+
 HEAD = """#include <assert.h>
 #include <stdbool.h>
 #include <stdint.h>
@@ -49,13 +54,24 @@ typedef struct {
 } DisasContext;
 static int ex_plus_1(DisasContext *d, int n) { (void)d; return n + 1; }
 """
+# The registers of three bits, and the shift amounts of 32 bits and of 64, in which none stands for another
+COMPRESSED = """static int ex_rvc_register(DisasContext *d, int n) { (void)d; return 8 + n; }
+static int ex_rvc_shiftli(DisasContext *d, int n) { (void)d; return n; }
+static int ex_rvc_shiftri(DisasContext *d, int n) { (void)d; return n; }
+"""
 SHIFT = "static int ex_shift_{0}(DisasContext *d, int n) {{ (void)d; return n * (1 << {0}); }}\n"
 # What the tree calls to take a word apart, which is QEMU's too
 BITS = ("uint32_t extract32", "int32_t sextract32", "uint32_t deposit32")
 TAIL = """
 bool qemu_decode(uint32_t word, DisasContext *d) {
     *d = (DisasContext){ .word = word };
-    return decode_insn32(d, word);
+    return decode_insn32(d, word) && d->row != UINT32_MAX;
+}
+
+// Of a half-word only ebreak looks at the word: its fields are those of the word of 32 bits.
+bool qemu_decode_half(uint16_t half, DisasContext *d) {
+    *d = (DisasContext){ .word = %#x };
+    return decode_insn16(d, half) && d->row != UINT32_MAX;
 }
 """
 
@@ -86,7 +102,7 @@ def function(name, row, table):
     another extension."""
     head = f"static bool trans_{name}(DisasContext *d, arg_{name} *a)"
     if row is None:
-        return f"{head} {{ (void)d; (void)a; return false; }}"
+        return f"{head} {{ (void)d; (void)a; {ILLEGAL if name == 'illegal' else 'return false;'} }}"
     number, kind = row
     fixed, stored = fixed_bits(table, name), STORED[kind]
     if name in WITHOUT_FORMAT:
@@ -96,24 +112,32 @@ def function(name, row, table):
             f" d->funct7 = {fixed >> 25}; d->funct3 = {fixed >> 12 & 7}; return true; }}")
 
 
+def tree(qemu, into, width):
+    """What the generator makes of the table of this width."""
+    made = into / f"tree{width}.c"
+    subprocess.run([sys.executable, qemu / "scripts/decodetree.py", f"--insnwidth={width}",
+                    f"--static-decode=decode_insn{width}", "-o", made,
+                    qemu / f"target/riscv/insn{width}.decode"], check=True)
+    return made.read_text()
+
+
 def main():
     qemu, into = map(pathlib.Path, sys.argv[1:])
     into.mkdir(parents=True, exist_ok=True)
-    source, tree = qemu / "target/riscv/insn32.decode", into / "tree.c"
-    subprocess.run([sys.executable, qemu / "scripts/decodetree.py", "--static-decode=decode_insn32",
-                    "-o", tree, source], check=True)
-    table, tree = source.read_text(), tree.read_text()
+    table = (qemu / "target/riscv/insn32.decode").read_text()
+    trees = tree(qemu, into, 32) + tree(qemu, into, 16)
     bits = "".join(taken(qemu / "include/qemu/bitops.h", BITS))
     rows, names = {}, []
     for kind, of_kind in ROWS.items():
         for name in of_kind.split():
             rows[name] = len(names), kind
             names.append(name)
-    asked = sorted(set(re.findall(r"^static bool trans_(\w+)\(", tree, re.M)))
+    asked = sorted(set(re.findall(r"^static bool trans_(\w+)\(", trees, re.M)))
     if not set(names) <= set(asked):
         sys.exit(f"insn32.decode has no {sorted(set(names) - set(asked))}")
-    shifts = sorted(set(re.findall(r"\bex_shift_(\d+)\(", tree)))
-    text = HEAD + bits + "".join(map(SHIFT.format, shifts)) + tree + TAIL
+    shifts = sorted(set(re.findall(r"\bex_shift_(\d+)\(", trees)))
+    text = HEAD + COMPRESSED + bits + "".join(map(SHIFT.format, shifts)) + trees
+    text += TAIL % fixed_bits(table, "ebreak")
     text += "\n".join(function(name, rows.get(name), table) for name in asked) + "\n"
     (into / "decoder.c").write_text(text)
     quoted = ", ".join(f'"{name}"' for name in names)

@@ -1,5 +1,6 @@
 //! Compares the kit's decoder, word by word, with the decoder that `decoder.py` makes of QEMU's
-//! table, and the texts' rows; and with the feature `original` with rrs-lib 0.1.0, with its texts.
+//! tables, and the texts' rows; and with the feature `original` with rrs-lib 0.1.0, with its texts. It
+//! compares each half-word too that is no part of a word: the row that it stands for.
 //!
 //! usage: every-word all | every-word PART
 //!
@@ -7,8 +8,10 @@
 //! each. The status is 0 where all is as it should be, and else 1, after the first words that differ.
 
 use kit::disassembly::Disassembled;
+use kit::hart::{Encoding, row_in};
 use kit::instruction::{Instruction, InstructionFields, decode};
 use kit::instruction_formats::{BType, IType, ITypeShamt, JType, RType, SType, UType};
+use std::fmt::Arguments;
 use std::process::ExitCode;
 use std::sync::atomic::{AtomicU64, Ordering::Relaxed};
 use std::thread;
@@ -23,6 +26,20 @@ const INSTRUCTIONS: u64 = (22 << 22) + (3 << 25) + (21 << 15) + 2;
 /// Words that the original takes for `slli`, for 127 more funct7, and for `jalr`, for 7 more funct3;
 /// and `ecall` and `ebreak`, which it does not decode.
 const LISTED: u64 = (127 << 15) + (7 << 22) + 2;
+/// Half-words whose low two bits are not 11, and those of them that stand for a row: by how many values
+/// the bits may have that a form leaves free. Nine forms leave eleven bits.
+const HALVES: u32 = 3 << 14;
+const SHORT: u32 = (9 << 11)
+    + (255 << 3) // addi4spn
+    + (63 << 5) // lui and addi16sp
+    + (31 << 6) // lwsp
+    + (1 << 10) // slli
+    + 2 * (31 << 5) // mv and add
+    + 2 * (1 << 8) // srli and srai
+    + (1 << 9) // andi
+    + 4 * (1 << 6) // sub, xor, or and and
+    + 2 * 31 // jr and jalr
+    + 1; // ebreak
 /// Words are taken in the order of their multiples of this odd number, so that each part has of all.
 const STRIDE: u32 = 0x9e37_79b1;
 const CHUNK: u64 = 1 << 16;
@@ -49,13 +66,20 @@ struct Decoded {
 #[link(name = "qemu_decoder", kind = "static")]
 unsafe extern "C" {
     fn qemu_decode(word: u32, decoded: *mut Decoded) -> bool;
+    fn qemu_decode_half(half: u16, decoded: *mut Decoded) -> bool;
 }
 
-/// The name of the row that a word is by QEMU's table, and its fields.
-fn decode_by_qemu(word: u32) -> Option<(&'static str, InstructionFields)> {
+/// The name of the row that an encoding is by QEMU's tables, or stands for, and its fields.
+fn decode_by_qemu(encoding: Encoding) -> Option<(&'static str, InstructionFields)> {
     let mut found = Decoded::default();
-    // SAFETY: the function writes the struct, and nothing else.
-    if !unsafe { qemu_decode(word, &mut found) } {
+    // SAFETY: the functions write the struct, and nothing else.
+    let is_row = unsafe {
+        match encoding {
+            Encoding::Short(half) => qemu_decode_half(half, &mut found),
+            Encoding::Long(word) => qemu_decode(word, &mut found),
+        }
+    };
+    if !is_row {
         return None;
     }
     let Decoded { funct7, funct3, shamt, imm, .. } = found;
@@ -74,7 +98,7 @@ fn decode_by_qemu(word: u32) -> Option<(&'static str, InstructionFields)> {
 
 /// Whether the kit has the row and the fields that QEMU's decoder has, and the text that row's name.
 fn is_qemus(word: u32, decoded: Option<Instruction>) -> bool {
-    match (decoded, decode_by_qemu(word)) {
+    match (decoded, decode_by_qemu(Encoding::Long(word))) {
         (None, None) => true,
         (Some(instruction), Some((name, fields))) => {
             let text = Disassembled { instruction, pc: PC }.text();
@@ -84,6 +108,20 @@ fn is_qemus(word: u32, decoded: Option<Instruction>) -> bool {
         }
         _ => false,
     }
+}
+
+/// Whether the kit has the row and the fields that a half-word stands for by QEMU's table. That takes
+/// `c.mv` for `addi rd, rs2, 0`; the standard, for `add rd, x0, rs2`.
+fn is_qemus_half(half: u16) -> bool {
+    let found = match (decode_by_qemu(Encoding::Short(half)), half & 0xf003) {
+        (Some(("addi", InstructionFields::I(IType { rs1, rd, .. }))), 0x8002) => {
+            let fields = RType { funct7: 0, rs2: rs1, rs1: 0, funct3: 0, rd };
+            Some(("add", InstructionFields::R(fields)))
+        }
+        (found, _) => found,
+    };
+    let row = row_in(Encoding::Short(half));
+    row.map(|instruction| (instruction.mnemonic(), instruction.fields())) == found
 }
 
 /// Whether a word is one of those in which the original differs.
@@ -107,9 +145,9 @@ struct Seen {
 
 impl Seen {
     /// Says that a word is not as it should be: the first ten of them.
-    fn says(&self, word: u32, of: &str) {
+    fn says(&self, word: Arguments, of: &str) {
         if self.wrong.fetch_add(1, Relaxed) < 10 {
-            println!("0x{word:08x} differs from {of}");
+            println!("{word} differs from {of}");
         }
     }
 
@@ -118,16 +156,28 @@ impl Seen {
         let decoded = decode(word);
         *instructions += u64::from(decoded.is_some());
         if !is_qemus(word, decoded) {
-            self.says(word, "QEMU's");
+            self.says(format_args!("0x{word:08x}"), "QEMU's");
         }
         #[cfg(feature = "original")]
         {
             let differs = !original::is_same(word, decoded);
             *_listed += u64::from(differs);
             if differs != is_listed(word) {
-                self.says(word, "what is listed of the original");
+                self.says(format_args!("0x{word:08x}"), "what is listed of the original");
             }
         }
+    }
+
+    /// Compares each half-word that is no part of a word, and counts those that stand for a row.
+    fn compare_halves(&self) -> u32 {
+        let mut short = 0;
+        for half in (0..=u16::MAX).filter(|half| half & 3 != 3) {
+            short += u32::from(row_in(Encoding::Short(half)).is_some());
+            if !is_qemus_half(half) {
+                self.says(format_args!("0x{half:04x}"), "QEMU's");
+            }
+        }
+        short
     }
 
     /// Compares the words of each chunk that nobody has taken yet, up to an index of a word.
@@ -166,15 +216,19 @@ fn main() -> ExitCode {
     for word in ENVIRONMENT {
         seen.compare(word, &mut 0, &mut 0);
     }
+    let short = seen.compare_halves();
     let (instructions, listed) = (seen.instructions.into_inner(), seen.listed.into_inner());
-    let is_counted = asked != "all"
-        || (instructions == INSTRUCTIONS && (listed == LISTED || !cfg!(feature = "original")));
+    let is_counted = short == SHORT
+        && (asked != "all"
+            || (instructions == INSTRUCTIONS && (listed == LISTED || !cfg!(feature = "original"))));
     let wrong = seen.wrong.into_inner();
     if wrong > 0 || !is_counted {
         println!("{wrong} words are wrong; {instructions} are instructions, and {listed} differ");
+        println!("{short} half-words stand for one");
         return ExitCode::FAILURE;
     }
     println!("{} words, {instructions} of them instructions: as QEMU's decoder", end - begin);
+    println!("{HALVES} half-words, {short} of them instructions: as QEMU's decoder");
     if cfg!(feature = "original") {
         println!("as the original, but for {listed} words that are listed");
     }

@@ -51,7 +51,14 @@ pub use rrs_trace as trace;
 #[doc(inline)]
 pub use rrs_elf as elf;
 
-/// A hart with layers beside the 48 rows: extension A, and misaligned accesses. Feature `hart`.
+/// A hart with what a [HartProfile](hart::HartProfile) has beside the 48 rows: extension A,
+/// `fence.i`, misaligned accesses, compressed code, Zba, Zbb and Zbs. Feature `hart`.
+///
+/// [run_hart](hart::run_hart) decodes each instruction. [run_layers_cached](fast::run_layers_cached)
+/// makes the same run over a [CachedMemory](fast::CachedMemory), which keeps instructions of 2 and of
+/// 4 bytes.
+/// [fetch_in](hart::fetch_in) and [execute_in](hart::execute_in) are a step in two parts, for a
+/// caller that looks at the instruction between them.
 #[cfg(feature = "hart")]
 pub mod hart {
     #[doc(inline)]
@@ -84,9 +91,10 @@ pub mod machine {
         pub use rrs_machine::{CsrAccess, MachineRetired, step_machine_retired};
         #[doc(inline)]
         pub use rrs_words::{
-            AtomicInstruction, AtomicRow, LayerInstruction, LayerText, atomic_named, atomic_text,
-            decode_atomic, decode_layer, encode_atomic, encode_layer, encode_system, laws,
-            layer_text, system_text,
+            AtomicInstruction, AtomicRow, BitExtension, BitInstruction, BitOperand, BitRow,
+            LayerInstruction, LayerText, atomic_named, atomic_text, bit_text, decode_atomic,
+            decode_bits, decode_layer, encode_atomic, encode_bits, encode_layer, encode_system,
+            laws, layer_text, system_text,
         };
     }
 }

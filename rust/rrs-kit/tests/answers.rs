@@ -14,7 +14,8 @@ use rrs_kit::instruction_executor::{InstructionException, InstructionExecutor};
 use rrs_kit::machine::csrs::is_read_only;
 use rrs_kit::machine::instructions::SystemInstruction;
 use rrs_kit::machine::system::{
-    AtomicInstruction, LayerInstruction, MachineRetired, decode_layer, step_machine_retired,
+    AtomicInstruction, BitInstruction, BitOperand, LayerInstruction, MachineRetired, decode_layer,
+    step_machine_retired,
 };
 use rrs_kit::machine::{Csr, CsrFile, Inputs, MachineAnswer, Profile};
 use rrs_kit::memories::SliceMemory;
@@ -32,7 +33,7 @@ const OF_C: [&str; 5] = ["name", "cause", "compare", "retire", "rvfi32"];
 /// How many questions of `rrs-replay` have answers from elsewhere.
 const FROM_ELSEWHERE: usize = 3402;
 /// How many questions are answered.
-const ASKED: usize = FROM_ELSEWHERE + 5716 - 296 - 900 - 122 - 320 - 212;
+const ASKED: usize = FROM_ELSEWHERE + 5867 - 171 - 276 - 900 - 320 - 212;
 
 /// What is left of a line.
 struct Line<'a>(&'a str);
@@ -197,6 +198,15 @@ fn fields_of(word: u32) -> Option<String> {
         LayerInstruction::Atomic(AtomicInstruction { row, fields }) => {
             let (rd, rs1, rs2, order) = (fields.rd, fields.rs1, fields.rs2, fields.funct7 % 4);
             format!("{} rd={rd} rs1={rs1} rs2={rs2} shamt=0 imm={order}", row.number())
+        }
+        LayerInstruction::Bits(BitInstruction { row, fields }) => {
+            let (rd, rs1) = (fields.rd, fields.rs1);
+            let (rs2, amount) = match row.operand() {
+                BitOperand::Register => (fields.rs2, 0),
+                BitOperand::Amount => (0, fields.rs2),
+                BitOperand::Fixed(_) => (0, 0),
+            };
+            format!("{} rd={rd} rs1={rs1} rs2={rs2} shamt={amount} imm=0", row.number())
         }
     })
 }

@@ -21,6 +21,62 @@ fn the_runtime_opens_files() {
     has_all(&HostRuntime::new());
 }
 
+/// The sum of 5 to 1 in x11, by compressed code: c.li x10, 5; c.add x11, x10; c.addi x10, -1;
+/// c.bnez x10, -4; c.nop; fence.i; ecall.
+#[cfg(feature = "hart")]
+const COMPRESSED: [u32; 5] = [0x95aa_4515, 0xfd75_157d, 0x100f_0001, 0x0073_0000, 0];
+
+/// A run of it that decodes, one that keeps instructions, and steps in two parts end alike, at the
+/// `ecall`: after 18 steps, of which 17 are of 16 bits. A hart without `fence.i` ends at it, and to
+/// one without compressed code the first word is illegal.
+#[cfg(feature = "hart")]
+#[test]
+fn compressed_code_runs_in_each_way() {
+    use rrs_kit::fast::{CachedMemory, run_layers_cached};
+    use rrs_kit::hart::{Encoding, HartProfile, execute_in, fetch_in, run_hart};
+    use rrs_kit::instruction_executor::{InstructionException, InstructionExecutor};
+    use rrs_kit::{HartState, memories::VecMemory};
+    type Run<'a> = &'a mut dyn FnMut(&mut InstructionExecutor<VecMemory>, HartProfile) -> u64;
+    let none = HartProfile::no_layers();
+    let all = HartProfile { fence_i: true, compressed: true, ..none };
+    let after = |run: Run, profile| {
+        let (mut memory, mut hart) = (VecMemory::new(COMPRESSED.to_vec()), HartState::new());
+        let mut executor = InstructionExecutor { mem: &mut memory, hart_state: &mut hart };
+        let steps = run(&mut executor, profile);
+        (steps, hart.pc, hart.read_register(11))
+    };
+    let mut decoded = |executor: &mut InstructionExecutor<VecMemory>, profile| {
+        run_hart(executor, &mut None, profile, 99).steps
+    };
+    let mut kept = |executor: &mut InstructionExecutor<VecMemory>, profile| {
+        let mut memory = CachedMemory::<_, 8>::new(VecMemory::new(COMPRESSED.to_vec()));
+        let hart_state = &mut *executor.hart_state;
+        let mut cached = InstructionExecutor { mem: &mut memory, hart_state };
+        run_layers_cached(&mut cached, &mut None, profile, 99).steps
+    };
+    let (mut short, mut last) = (0, None);
+    let mut parted = |executor: &mut InstructionExecutor<VecMemory>, profile| {
+        for steps in 0..99 {
+            let (memory, hart) = (&mut *executor.mem, &mut *executor.hart_state);
+            let done = fetch_in(memory, profile, hart.pc).and_then(|encoding| {
+                short += u32::from(matches!(encoding, Encoding::Short(_)));
+                execute_in(memory, hart, &mut None, profile, encoding)
+            });
+            if let Err(exception) = done {
+                last = Some(exception);
+                return steps;
+            }
+        }
+        99
+    };
+    for run in [&mut decoded as Run, &mut kept, &mut parted] {
+        assert_eq!(after(run, all), (18, 14, 15));
+        assert_eq!(after(run, HartProfile { fence_i: false, ..all }), (17, 10, 15));
+        assert_eq!(after(run, none), (0, 0, 0));
+    }
+    assert_eq!((short, last), (34, Some(InstructionException::IllegalInstruction(0, 0x95aa_4515))));
+}
+
 /// Firmware that transmits a byte, looks for one until it is there, transmits it, reads the time,
 /// sets the software interrupt and the alarm, and ends.
 #[cfg(all(feature = "machine", feature = "std"))]
