@@ -24,7 +24,8 @@ open import rrs-lib.Declared using
 open import rrs-lib.Machine
 open import rrs-lib.Steps
 open import machine-words.Declared using
-  (Mstatus; Mie; Mtvec; Mscratch; Mepc; Mcause; Mtval; Mip)
+  ( HartProfile; atomics·; misaligned·; fence-i·; compressed·
+  ; Mstatus; Mie; Mtvec; Mscratch; Mepc; Mcause; Mtval; Mip )
 open import machine-mode.Declared using
   ( CsrFile; Inputs; MachineAnswer; Retired; Waiting; Raised; Interrupted
   ; external·; timer·; software·; time·; mstatus·; mie·; mtvec·; mscratch·; mepc·; mcause·; mtval· )
@@ -38,6 +39,8 @@ open import Reading.Decoding
 open import Reading.Steps
 open import Reading.Remembering using (remembered; remembered-is)
 open import Reading.MachineSteps
+open import Reading.HartSteps using (hart-step; hart-stepped)
+open import hart.Profiles using (Hart; hart-with; state·; reserved·)
 
 -- ---- words of answers
 
@@ -178,9 +181,9 @@ access-text (Write a size x granted) = codes "w" ++ word-text a ++ size-text siz
 accesses-text : List Access → List ℕ
 accesses-text accesses = joined (codes ",") (map access-text accesses)
 
--- a step: its pc, its answer, the register that it wrote with its value, and its accesses
-step-text : (s : State) → Stepped s → List ℕ
-step-text s (stepped t answer accesses _ _) = word-text (s .pc·) ++ codes " "
+-- a step from s to t: its pc, its answer, the register that it wrote with its value, its accesses
+step-text : State → State → StepAnswer → List Access → List ℕ
+step-text s t answer accesses = word-text (s .pc·) ++ codes " "
   ++ answer-text answer ++ codes " " ++ last-text (t .last·) ++ codes "="
   ++ word-text (option-map-or (reg t) (t .last·) 0) ++ codes " " ++ accesses-text accesses
 
@@ -188,10 +191,33 @@ step-text s (stepped t answer accesses _ _) = word-text (s .pc·) ++ codes " "
 traced : ℕ → State → List (List ℕ)
 traced zero s = (codes "end " ++ state-text 0 s) ∷ []
 traced (suc n) s with step s
-... | stepped t (Ok tt) accesses is its =
-  step-text s (stepped t (Ok tt) accesses is its) ∷ traced n (anew n t)
-... | stepped t (Err e) accesses is its =
-  step-text s (stepped t (Err e) accesses is its) ∷ (codes "end " ++ state-text 0 t) ∷ []
+... | stepped t (Ok tt) accesses _ _ = step-text s t (Ok tt) accesses ∷ traced n (anew n t)
+... | stepped t (Err e) accesses _ _ =
+  step-text s t (Err e) accesses ∷ (codes "end " ++ state-text 0 t) ∷ []
+
+-- a hart's profile, as a sum: 1 for extension A, 2 for fence.i, 4 for misaligned accesses, and 8
+-- for compressed code
+profile-of : ℕ → HartProfile
+profile-of n = record
+  { atomics· = has 1 ; fence-i· = has 2 ; misaligned· = has 4 ; compressed· = has 8 }
+  where
+  has : ℕ → Bool
+  has bit = n / bit % 2 == 1
+
+-- the steps of a hart likewise, and what they leave, with the memory as words from a base on
+hart-traced : HartProfile → ℕ → ℕ → ℕ → Hart → List (List ℕ)
+hart-traced p base count n s = by n s
+  where
+  end : Hart → List ℕ
+  end s = codes "end " ++ state-text 0 (s .state·) ++ codes " mem="
+    ++ joined (codes ",") (memory-text (s .state· .bytes·) base count)
+  by : ℕ → Hart → List (List ℕ)
+  by zero s = end s ∷ []
+  by (suc n) s with hart-step p s
+  ... | hart-stepped t (Ok tt) accesses _ _ = step-text (s .state·) (t .state·) (Ok tt) accesses
+    ∷ by n (hart-with (anew n (t .state·)) (t .reserved·))
+  ... | hart-stepped t (Err e) accesses _ _ = step-text (s .state·) (t .state·) (Err e) accesses
+    ∷ end t ∷ []
 
 exception-text : Option InstructionException → List ℕ
 exception-text None = codes "limit"
@@ -273,7 +299,7 @@ reads-more follows s = reads (value-as (codes "base") word-of) λ base →
   reads (value-as (codes "mem") memory-of) λ memory → follows (also base memory s)
 
 -- `trace`, `far`, `run` or `machine`, and then a state; for `far` twice more memory, and for
--- `machine` the CSRs
+-- `machine` the CSRs. `hart`, its profile, and then a state
 asks-more : List (List ℕ) → Option (List (List ℕ))
 asks-more [] = None
 asks-more (w ∷ ws) =
@@ -282,10 +308,13 @@ asks-more (w ∷ ws) =
   then reads-state (λ n _ _ → reads-more (reads-more (λ s → ends (traced n s)))) ws
   else (if bytes-eq w (codes "run")
   then reads-state (λ n base count s → ends (finished base count n s)) ws
+  else (if bytes-eq w (codes "hart")
+  then reads count-of (λ profile → reads-state λ n base count s →
+    ends (hart-traced (profile-of profile) base count n (hart-with s None))) ws
   else (if bytes-eq w (codes "machine")
   then reads-state (λ n _ _ s → reads (value-as (codes "csrs") memory-of)
     λ csrs → ends (machine-steps n (with-devices (machine s (file-of csrs))))) ws
-  else None)))
+  else None))))
 
 -- ---- input and output
 

@@ -365,6 +365,54 @@ AllPairs {A} R xs = (i j : ℕ) (d : A) → i < j → j < length xs
 IsStrictlyIncreasing : List ℕ → Set
 IsStrictlyIncreasing xs = (k : ℕ) → k + 1 < length xs → slice-index xs k < slice-index xs (k + 1)
 
+-- core.Int: a width by its bits; of numbers below 2 ^ bits, the counts of zeros and ones, what is
+-- rotated, and the bytes, lowest or highest first
+Width : Set
+Width = ℕ
+
+w32 : Width
+w32 = 32
+
+ones-of trailing-of leading-of : ℕ → ℕ → ℕ
+ones-of zero n = 0
+ones-of (suc k) n = n % 2 + ones-of k (n / 2)
+trailing-of zero n = 0
+trailing-of (suc k) n = if n % 2 == 0 then suc (trailing-of k (n / 2)) else 0
+leading-of zero n = 0
+leading-of (suc k) n = if nat-lt n (2 ^ k) then suc (leading-of k n) else 0
+
+count-ones : ℕ → ℕ
+count-ones = ones-of 64
+
+leading-zeros trailing-zeros : Width → ℕ → ℕ
+leading-zeros = leading-of
+trailing-zeros = trailing-of
+
+rotate-left rotate-right : Width → ℕ → ℕ → ℕ
+rotate-left w n by =
+  if by % w == 0 then n else n * 2 ^ (by % w) % 2 ^ w + n / 2 ^ (w - by % w)
+rotate-right w n by =
+  if by % w == 0 then n else n / 2 ^ (by % w) + n * 2 ^ (w - by % w) % 2 ^ w
+
+bytes-of : ℕ → ℕ → List ℕ
+bytes-of zero n = []
+bytes-of (suc k) n = n % 256 ∷ bytes-of k (n / 256)
+
+to-le-bytes : Width → ℕ → List ℕ
+to-le-bytes w = bytes-of (w / 8)
+
+from-lowest : List ℕ → ℕ
+from-lowest [] = 0
+from-lowest (b ∷ bs) = b + 256 * from-lowest bs
+
+from-highest : ℕ → List ℕ → ℕ
+from-highest n [] = n
+from-highest n (b ∷ bs) = from-highest (n * 256 + b) bs
+
+from-le-bytes from-be-bytes : Width → List ℕ → ℕ
+from-le-bytes w = from-lowest
+from-be-bytes w = from-highest 0
+
 -- lib.Pointwise, line by line, at nat_eq; core.Str: bytes_eq = pointwise nat_eq
 bytes-eq : List ℕ → List ℕ → Bool
 bytes-eq [] [] = true

@@ -594,9 +594,10 @@ class FileText:
         return "\n".join(out) + "\n"
 
     def fields(self):
-        """The fields that a file selects or sets come from the modules that it imports from. A
-        field of a record that it does not name is one of a type of the code, or, where the file
-        selects it, comes from the modules that those import from."""
+        """The fields that a file selects or sets come from the modules that it imports from. One
+        that it selects may be of a record that it does not name: it comes also from the modules
+        that those import from, and Agda takes the one of the record at hand. Another is one of a
+        type of the code."""
         used = set(re.findall(r"\.([a-z][\w']*)|\b([a-z][\w']*) =(?!=)", re.sub(
             r"--[^\n]*", "", self.source.text)))
         selected = {a for a, _ in used}
@@ -608,9 +609,9 @@ class FileText:
         for name in sorted(used):
             having = [m for m, records in groups.items()
                       if any(name in fs for fs in records.values())]
-            named = [m for m in having if m == "Prelude" or m in self.records]
-            named = named or [m for m in having if m.endswith(".Declared")
-                              or name in selected and m in self.behind]
+            named = [m for m in having if m == "Prelude" or m in self.records
+                     or name in selected and m in self.behind]
+            named = named or [m for m in having if m.endswith(".Declared")]
             for module in dict.fromkeys(named):
                 wanted.setdefault(module, []).append(field_name(name))
         return [f"open import {m} using ({'; '.join(f)})" for m, f in wanted.items()]

@@ -121,6 +121,11 @@ each-at : {A : Set} {P : A → Set} {xs : List A} (i : ℕ) {x : A}
 each-at zero (p ∷ ps) refl = p
 each-at (suc i) (p ∷ ps) e = each-at i ps e
 
+-- so of one that has a place
+each-there : {A : Set} {P : A → Set} {xs : List A} {x : A}
+  → Each P xs → (Σ ℕ λ i → slice-get xs i ≡ Some x) → P x
+each-there ps (i , e) = each-at i ps e
+
 -- each element passes a test
 all-pass : {A : Set} → (A → Bool) → List A → Bool
 all-pass passes [] = true

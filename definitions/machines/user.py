@@ -143,15 +143,17 @@ def ask(answers, questions):
 
 
 def qemu_log(room, plugin, entry, segments):
-    """What QEMU executes of a program: the registers before each step, and its accesses."""
+    """What QEMU executes of a program, the registers before each step and its accesses, and what
+    the program writes."""
     path, log = Path(room, "program"), Path(room, "log")
     path.write_bytes(elf(entry, segments))
     path.chmod(0o755)
     done = subprocess.run(["qemu-riscv32", "-singlestep", "-plugin", plugin, "-d",
-                           "cpu,plugin,nochain", "-D", log, path], check=False)
+                           "cpu,plugin,nochain", "-D", log, path],
+                          check=False, stdout=subprocess.PIPE)
     if done.returncode:
         raise RuntimeError(f"qemu-riscv32: status {done.returncode}")
-    return steps_of(log.read_text())
+    return steps_of(log.read_text()), done.stdout
 
 
 def steps_of(log):
@@ -193,7 +195,7 @@ def difference(steps, lines, segments):
 
 def compare_trace(answers, room, plugin, kind, entry, segments):
     """Compares a program, step by step: how many steps, and the first difference."""
-    steps = qemu_log(room, plugin, entry, segments)
+    steps, _ = qemu_log(room, plugin, entry, segments)
     pc, registers, _ = steps[0]
     lines = ask(answers, [question(kind, 2 * len(steps), pc, registers, segments)])
     return len(steps), difference(steps, lines, segments)
