@@ -5,7 +5,9 @@ usage: lines.py SEED COUNT            a source of so many statements, all of the
        lines.py SEED COUNT changed    lines of such a source, cut short or with a byte changed
        lines.py SEED COUNT each       of so many lines each beginning, and each with one byte
                                       changed, at each place
-       lines.py SEED COUNT .. layers  the same of instructions on CSRs and of extension A alone
+       lines.py SEED COUNT .. layers  the same of instructions that are no row of the kit alone
+       lines.py --short SEED COUNT    a source of so many statements, most of them compressed
+       lines.py --short-refused       compressed instructions that are none, one a line
        lines.py --branches SEED COUNT FOLDER   so many sources of branches to labels that are
                                       about as far as a branch reaches
        lines.py --behind FOLDER       of each directive a source, one of which has a text behind it
@@ -31,8 +33,13 @@ SWAPPED = "bgt ble bgtu bleu".split()
 AGAINST_ZERO = "beqz bnez blez bgez bltz bgtz".split()
 OF_ONE = "mv not neg seqz snez sltz sgtz".split()
 CSR_ROWS = "csrrw csrrs csrrc".split()
+CSR_IMMEDIATE = "csrrwi csrrsi csrrci".split()
 CSR_WRITES = "csrw csrs csrc".split()
 ATOMIC = "sc.w amoswap.w amoadd.w amoxor.w amoand.w amoor.w amomin.w amomax.w amominu.w amomaxu.w".split()
+BITS_OF_THREE = ("sh1add sh2add sh3add andn orn xnor max maxu min minu rol ror bclr bext binv "
+                 "bset").split()
+BITS_OF_TWO = "clz ctz cpop sext.b sext.h zext.h orc.b rev8".split()
+BIT_SHIFTS = "rori bclri bexti binvi bseti".split()
 ORDERS = ["", "", ".aq", ".rl", ".aqrl"]
 COUNTERS = "rdcycle rdtime rdinstret rdcycleh rdtimeh rdinstreth".split()
 CSRS = ("mstatus misa mie mtvec mstatush mcountinhibit mscratch mepc mcause mtval mip mcycle "
@@ -40,6 +47,27 @@ CSRS = ("mstatus misa mie mtvec mstatush mcountinhibit mscratch mepc mcause mtva
         "mimpid mhartid mconfigptr").split()
 CSRS += [f"mhpm{kind}" for n in range(3, 32)
          for kind in (f"event{n}", f"counter{n}", f"counter{n}h")]
+EIGHT = range(8, 16)
+# compressed instructions with a wrong register, number or target, or that have no such name
+SHORT_REFUSED = """
+c.addi4spn a0, sp, 0|c.addi4spn a0, sp, 1024|c.addi4spn a0, sp, 2|c.addi4spn a0, sp, -4
+c.addi4spn t0, sp, 4|c.addi4spn a0, a1, 4|c.addi4spn a0, 4|c.addi4spn a0, sp
+c.lw t0, 4(a1)|c.lw a0, 4(t0)|c.lw a0, 128(a1)|c.lw a0, 2(a1)|c.lw a0, -4(a1)|c.lw a0, a1
+c.lw a0, %lo(4)(a1)|c.lw a0, 4|c.lw a0, 4(a1|c.lw a0, 4(4)|c.sw x7, (x8)|c.sw x8, (x16)
+c.sw a0, 128(a1)|c.sw a0, 3(a1)|c.sw a0, 4(a1), a2|c.nop 0|c.nop a0|c.addi a0, 32
+c.addi a0, -33|c.addi a0, a1|c.addi a0, a0, 1|c.addi a0|c.addi a0, %lo(4)|c.addi a0, 0xffffffff
+c.li a0, 32|c.li a0, -33|c.li a0, a1|c.li a0, later|c.li|c.addi16sp sp, 0|c.addi16sp sp, 512
+c.addi16sp sp, -528|c.addi16sp sp, 8|c.addi16sp a0, 16|c.addi16sp 16|c.lui sp, 1|c.lui a0, 0
+c.lui a0, 32|c.lui a0, 0xfffdf|c.lui a0, 0x100000|c.lui a0, -1|c.lui a0, %hi(4096)|c.srli t0, 1
+c.srli a0, 0|c.srli a0, 32|c.srai a6, 1|c.srai a0, 0|c.srai a0, 32|c.slli a0, 0|c.slli a0, 32
+c.slli a0, a0, 1|c.andi t0, 1|c.andi a0, 32|c.andi a0, -33|c.sub a0, t0|c.sub t0, a0
+c.sub a0, a0, a1|c.xor a0, zero|c.xor a0, 1|c.or a0, x16|c.or x7, a0|c.and a0, sp|c.and a0
+c.j a0, later|c.jal ra, later|c.beqz t0, . + 4|c.beqz a0, a1, . + 4|c.beqz a0|c.bnez sp, . + 4
+c.lwsp zero, 4(sp)|c.lwsp a0, 4(a1)|c.lwsp a0, 256(sp)|c.lwsp a0, 2(sp)|c.lwsp a0, -4(sp)
+c.lwsp a0, sp|c.swsp a0, 4(a1)|c.swsp a0, 256(sp)|c.swsp a0, 1(sp)|c.jr zero|c.jr (a0)|c.jr 0(a0)
+c.jr|c.jalr zero|c.jalr ra, a0|c.mv a0, zero|c.mv a0, 1|c.mv a0|c.add a0, zero|c.add a0, a0, a1
+c.add a0, 1|c.ebreak a0|c.none a0|c.addi4 a0, 1|c.flw a0, (a1)|c.fld a0, (a1)|c.ld a0, (a1)
+""".replace("\n", "|").strip("|").split("|")
 INFIX = "!! ! ^ | & + - * == != <> < > <= >= && ||".split()
 # directives, and what each takes; `*` stands where the text goes
 DIRECTIVES = [
@@ -59,13 +87,13 @@ EDGES = [0, 1, 2047, 2048, 2049, 4095, 4096, 0x7ffff7ff, 0x7ffff800, 0x7fffffff,
 BRANCH = re.compile(rb"\s*([12]\s*:)?\s*(nop\s*;)?\s*b[a-z]+\s")
 ADDRESS = re.compile(rb"\s*([12]\s*:)?\s*(nop\s*;)?\s*la\s")
 OF_ZERO = re.compile(rb"\bli\s+(x0|zero)\b")
-STATEMENT = re.compile(rb"\s*(?:\w+\s*:\s*|nop\s*;\s*)*([.a-z]+)\s+(.*)")
+STATEMENT = re.compile(rb"\s*(?:\w+\s*:\s*|nop\s*;\s*)*([.a-z][.a-z0-9]*)\s+(.*)")
 SYMBOL = re.compile(rb"(?<![\w.$%])(?:\.(?![\w.$])|[A-Za-z_][\w.$]*)")
 NEGATED = re.compile(rb"-\s*[.A-Za-z_]")
 NUMBERS = {name.encode() for name in [f"x{n}" for n in range(32)] + ABI + ["fp", "constant"] + CSRS}
-TAKES_NUMBER = {name.encode() for name in IMMEDIATE + SHIFTS + LOADS + STORES
-                + ["lui", "auipc", "jalr", "li", "csrr"] + CSR_ROWS + CSR_WRITES
-                + [name + "i" for name in CSR_ROWS + CSR_WRITES]}
+TAKES_NUMBER = {name.encode() for name in IMMEDIATE + SHIFTS + BIT_SHIFTS + LOADS + STORES
+                + ["lui", "auipc", "jalr", "li", "csrr"] + CSR_ROWS + CSR_IMMEDIATE
+                + CSR_WRITES + [name + "i" for name in CSR_WRITES]}
 TWO_PLACES = re.compile(rb"(?<![\w.$])\.(?![\w.$]).*(?<![\w.$])\.(?![\w.$])")
 OPERATOR = re.compile(rb"[*/<>|&^!~=]|%(?!lo|hi|pcrel)")
 MINUS_PLACE = re.compile(rb"[-~!]\s*\.(?![\w.$])")
@@ -201,9 +229,83 @@ class Source:
                      f".word {join(self.operated(), self.operated())}",
                      f".word near{self.labels}, last"])
 
+    def among(self, numbers):
+        """One of the registers with these numbers."""
+        number = self.random.choice(numbers)
+        return self.random.choice([f"x{number}", ABI[number]])
+
+    def times(self, step, least, most):
+        """A multiple of a step, and not 0 where neither end is."""
+        number = step * int(self.number(least // step, most // step), 0)
+        return str(number or (least if least * most < 0 and step > 2 else 0))
+
+    def target(self):
+        """The last label above, or the next."""
+        return f"near{self.labels - self.random.choice([0, 1])}"
+
+    def short(self):
+        """A compressed instruction."""
+        r, join, pick, times = self.register, self.join, self.random.choice, self.times
+        eight, other = self.among(EIGHT), self.among(EIGHT)
+        stack, not_zero = self.among([2]), self.among(range(1, 32))
+        near = pick([self.target(), f". + {times(2, -256, 254)}"])
+        far = pick([self.target(), f". + {times(2, -2048, 2046)}"])
+        return pick([
+            f"c.addi4spn {join(eight, stack, times(4, 4, 1020))}",
+            f"{pick(['c.lw', 'c.sw'])} {join(eight, f'{times(4, 0, 124)}({other})')}",
+            f"{pick(['c.lw', 'c.sw'])} {join(eight, f'({other})')}",
+            f"c.lwsp {join(not_zero, f'{times(4, 0, 252)}({stack})')}",
+            f"c.swsp {join(r(), f'{times(4, 0, 252)}({stack})')}",
+            f"{pick(['c.addi', 'c.li'])} {join(r(), self.number(-32, 31))}",
+            f"c.andi {join(eight, self.number(-32, 31))}",
+            f"c.addi16sp {join(stack, times(16, -512, 496))}",
+            f"c.lui {join(self.among([0, 1, *range(3, 32)]), self.number(1, 31))}",
+            f"c.lui {join(self.among([0, 1, *range(3, 32)]), self.number(0xfffe0, 0xfffff))}",
+            f"{pick(['c.srli', 'c.srai'])} {join(eight, self.number(1, 31))}",
+            f"c.slli {join(r(), self.number(1, 31))}",
+            f"{pick(['c.sub', 'c.xor', 'c.or', 'c.and'])} {join(eight, other)}",
+            f"{pick(['c.mv', 'c.add'])} {join(r(), not_zero)}",
+            f"{pick(['c.jr', 'c.jalr'])} {not_zero}", f"{pick(['c.j', 'c.jal'])} {far}",
+            f"{pick(['c.beqz', 'c.bnez'])} {join(eight, near)}", pick(["c.nop", "c.ebreak"])])
+
+    def beside_short(self):
+        """Another statement, with a target that may lie at an even address."""
+        r, join, pick = self.register, self.join, self.random.choice
+        return pick([f"{pick(THREE)} {join(r(), r(), r())}",
+                     f"{pick(IMMEDIATE)} {join(r(), r(), self.number(-2048, 2047))}",
+                     f"{pick(BRANCHES)} {join(r(), r(), self.target())}",
+                     f"{pick(AGAINST_ZERO)} {join(r(), self.target())}",
+                     f"{pick(['j', 'jal', 'call', 'tail'])} {self.target()}",
+                     f"la {join(r(), self.target())}", f"lw {join(self.written(), self.target())}",
+                     f".half {self.number(0, 65535)}", self.layer()])
+
+    def make_short(self, count):
+        """Statements of which GNU as makes compressed instructions only where they are."""
+        lines = [".option norvc", ".equ constant, 12", "near0:"]
+        self.labels = 1
+        for number in range(count):
+            kind = self.random.random()
+            if kind < 0.7:
+                lines.append(f".option rvc; {self.short()}; .option norvc")
+            elif kind < 0.73:
+                alignment = self.random.choice([".align 2", ".balign 8", ".p2align 4"])
+                lines.append(f".option rvc; {alignment}; .option norvc")
+            else:
+                lines.append(self.beside_short())
+            if number % 16 == 0:
+                lines.append(f"near{self.labels}:")
+                self.labels += 1
+        return [*lines, f"near{self.labels}: nop"]
+
     def layer(self):
         """An instruction that is no row of the kit."""
-        return self.random.choice([self.system, self.system, self.atomic])()
+        return self.random.choice([self.system, self.system, self.atomic, self.bits])()
+
+    def bits(self):
+        """An instruction of Zba, Zbb or Zbs."""
+        r, join, pick = self.register, self.join, self.random.choice
+        return pick([f"{pick(BITS_OF_THREE)} {join(r(), r(), r())}", f"{pick(BITS_OF_TWO)} {join(r(), r())}",
+                     f"{pick(BIT_SHIFTS)} {join(r(), r(), self.number(0, 31))}"])
 
     def atomic(self):
         """An instruction of extension A."""
@@ -217,7 +319,7 @@ class Source:
         r, join, pick = self.register, self.join, self.random.choice
         csr, number = pick([pick(CSRS), self.number(0, 4095)]), self.number(0, 31)
         return pick([f"{pick(CSR_ROWS)} {join(r(), csr, pick([r(), number]))}",
-                     f"{pick(CSR_ROWS)}i {join(r(), csr, number)}",
+                     f"{pick(CSR_IMMEDIATE)} {join(r(), csr, number)}",
                      f"{pick(CSR_WRITES)} {join(csr, pick([r(), number]))}",
                      f"{pick(CSR_WRITES)}i {join(csr, number)}", f"csrr {join(r(), csr)}",
                      f"{pick(COUNTERS)} {r()}", pick(["mret", "wfi", "fence.i"])])
@@ -317,7 +419,7 @@ def is_named(statement):
         return True
     if name in (b"la", b"call", b"tail"):
         return bool(NEGATED.search(operands)) or len(addresses) > 1
-    if name.decode() in SHIFTS and b"%" in operands:
+    if name.decode() in SHIFTS + BIT_SHIFTS and b"%" in operands:
         return True
     if name.decode() in LOADS + STORES and b"(" not in operands and b"constant" in operands:
         return True
@@ -351,13 +453,15 @@ def behind(folder):
 
 
 def branches(seed, count, folder):
-    """Writes sources of branches and gaps. Every third has alignments."""
+    """Writes sources of branches and gaps. Every third has alignments, and every fourth
+    compressed instructions."""
     chance = random.Random(seed)
     for number in range(count):
         lines = []
         labels = chance.randint(20, 200)
         gaps = [".space %d" % size for size in (4, 8, 40, 200, 400, 800, 1000, 2000, 4000)]
         others = ["nop"] * 3 + [".balign 8", ".balign 32"] * (number % 3 == 0)
+        others += [".option rvc; c.nop; .option norvc"] * (number % 4 == 1)
         for label in range(labels):
             lines.append(f"l{label}:")
             kind = chance.random()
@@ -375,6 +479,12 @@ def main():
         return branches(int(sys.argv[2]), int(sys.argv[3]), sys.argv[4])
     if sys.argv[1] == "--behind":
         return behind(sys.argv[2])
+    if sys.argv[1] == "--short":
+        print("\n".join(Source(int(sys.argv[2])).make_short(int(sys.argv[3]))))
+        return None
+    if sys.argv[1] == "--short-refused":
+        print("\n".join(SHORT_REFUSED))
+        return None
     if sys.argv[1] == "--refused":
         sys.exit(refused(*sys.argv[2:]))
     kinds = {"changed": changed, "each": each}
