@@ -41,8 +41,9 @@ const TREE_STRUCTURE = 56;
 
 /* The nodes: each has its name, its properties, and the nodes in it. A property is a text, numbers,
  * or nothing. */
-const HART_NODE = ["cpu@0", {
-  device_type: "cpu", reg: [0], status: "okay", compatible: "riscv", "riscv,isa": "rv32ima",
+const hartNode = (hasCompressed) => ["cpu@0", {
+  device_type: "cpu", reg: [0], status: "okay", compatible: "riscv",
+  "riscv,isa": hasCompressed ? "rv32imac" : "rv32ima",
 }, [["interrupt-controller", {
   "#interrupt-cells": [1], "interrupt-controller": [], compatible: "riscv,cpu-intc", phandle: [1],
 }, []]]];
@@ -62,8 +63,9 @@ const DEVICE_NODES = [
   }, []],
 ];
 
-/** The device tree of a board with so many bytes of RAM, as `rrs board` hands it over. */
-function deviceTree(ramBytes) {
+/** The device tree of a board with so many bytes of RAM, as `rrs board` hands it over, whose hart has
+ * extension C or not. */
+function deviceTree(ramBytes, hasCompressed) {
   const cells = { "#address-cells": [1], "#size-cells": [1] };
   const [structure, names] = [[], []];
   putNode(structure, names, ["", { ...cells, compatible: "riscv-virtio", model: "rrs board" }, [
@@ -71,7 +73,7 @@ function deviceTree(ramBytes) {
     ["memory@80000000", { device_type: "memory", reg: [RAM_START, ramBytes] }, []],
     ["cpus", {
       "#address-cells": [1], "#size-cells": [0], "timebase-frequency": [TIMEBASE],
-    }, [HART_NODE]],
+    }, [hartNode(hasCompressed)]],
     ["soc", { ...cells, compatible: "simple-bus", ranges: [] }, DEVICE_NODES],
   ]]);
   structure.push(...numberBytes(TREE.LAST));
@@ -179,9 +181,6 @@ class Screen {
 
 /* ---- the board */
 
-/* What mcause says of an illegal instruction. */
-const ILLEGAL_CAUSE = 2;
-
 /* What is said of a board that does not go on, by what ended its run. */
 const BOARD_ENDS = {
   [EVENT.FINISHED]: (status) => `It was powered off, with status ${status}.`,
@@ -189,11 +188,6 @@ const BOARD_ENDS = {
   [EVENT.SPINS]: () => "It jumps to itself, and no interrupt can be taken.",
   [EVENT.RESTARTS]: () => "It asked to be started anew.",
 };
-
-/* Why a word is none that the hart has, or "": extension C has instructions of 2 bytes, which do not
- * end with two ones. */
-const whyCompressed = (word) => (word & 0xffff && (word & 3) !== 3
-  ? " It is a compressed one, of extension C, which this hart has not: build the image for rv32ima." : "");
 
 /** A board with an image, and what is typed into it. */
 class Board {
@@ -229,13 +223,15 @@ class Board {
     this.onChange();
   }
 
-  /* Has the hart and RAM as they start. */
+  /* Has the hart and RAM as they start. Raw bytes have no flags that tell of compressed code, so their
+   * hart has extension C: other code runs the same on it. */
   start() {
     const { kit, image } = this;
     kit.reset(RAM_START);
+    kit.hasCompressed = true;
     if (isElf(image)) kit.loadElf(image);
     else kit.bytes.set(image);
-    kit.bytes.set(deviceTree(RAM_BYTES), RAM_BYTES - TREE_ROOM);
+    kit.bytes.set(deviceTree(RAM_BYTES, kit.hasCompressed), RAM_BYTES - TREE_ROOM);
     kit.x[11] = RAM_START + RAM_BYTES - TREE_ROOM;
   }
 
@@ -323,10 +319,8 @@ class Board {
 
   /* What the latest trap was, by the CSRs, as `illegal instruction at 0x80000000.` */
   trapTold() {
-    const { csrs, words } = this.kit;
-    const [cause, address] = [csrs[CSR.mcause], csrs[CSR.mepc]];
-    const told = `${CAUSES[cause] ?? "a trap"} at ${hex(address)}.`;
-    return cause === ILLEGAL_CAUSE ? told + whyCompressed(words[(address - RAM_START) / 4]) : told;
+    const { csrs } = this.kit;
+    return `${CAUSES[csrs[CSR.mcause]] ?? "a trap"} at ${hex(csrs[CSR.mepc])}.`;
   }
 
   /* Why the board has no handler that can be fetched: where mtvec points, and the trap that went

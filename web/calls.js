@@ -85,7 +85,7 @@ function readString(machine, extra) {
  * serves. */
 const ENVIRONMENTS = {
   linux: {
-    name: "Linux", number: REGISTER.A7,
+    name: "Linux", number: REGISTER.A7, hasProcesses: true,
     calls: {
       29: {
         name: "ioctl", about: "says that a stream is no terminal", serve: ofStream(NO_TERMINAL),

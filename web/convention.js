@@ -59,9 +59,9 @@ class StateOfCalls {
     }
   }
 
-  /** Looks at a step: its address and word, the register that it wrote, or 0, and the register's
-   * values before and after it. */
-  look(pc, word, rd, before, after) {
+  /** Looks at a step: its address, its word and how many bytes it has, the register that it wrote, or
+   * 0, and the register's values before and after it. */
+  look(pc, word, size, rd, before, after) {
     if (this.isCalled) this.enter(pc);
     const reads = READS[word & 0x7f];
     if (reads > 0) this.lookAtRead(pc, word, word >>> 15 & 31);
@@ -72,12 +72,12 @@ class StateOfCalls {
     if (opcode !== OPCODE.JAL && opcode !== OPCODE.JALR) return;
     const kind = kindOfJump(word);
     if (kind === "return") this.leave(pc);
-    else if (kind === "call") this.call(pc, word, sp);
+    else if (kind === "call") this.call(pc, word, size, sp);
   }
 
-  call(pc, word, sp) {
+  call(pc, word, size, sp) {
     const isPlain = (word >>> 7 & 31) === 1;
-    const back = (pc + 4) % 2 ** 32;
+    const back = (pc + size) % 2 ** 32;
     this.top = new Frame(pc, undefined, back, sp, isPlain, this.returns, null, this.top);
     this.isCalled = true;
     if (this.top.depth > 2 * FRAMES_KEPT) this.top = shortenedFrames(this.top);
@@ -167,11 +167,12 @@ class Convention {
 
   /* Looks at the records up to that of a step. */
   look(until) {
-    const { state, history } = this;
-    const { u32 } = history.kit;
+    const { state, history, history: { kit } } = this;
+    const { u32 } = kit;
     for (; state.step < until; state.step++) {
       const at = history.placeOf(state.step);
-      state.look(u32[at + RECORD.pc], u32[at + RECORD.word], u32[at + RECORD.rd],
+      const bits = u32[at + RECORD.word];
+      state.look(u32[at + RECORD.pc], kit.wordOf(bits), kit.sizeOf(bits), u32[at + RECORD.rd],
         u32[at + RECORD.rdBefore], u32[at + RECORD.rdAfter]);
     }
   }

@@ -19,6 +19,8 @@ const LANGUAGE_NOTES = {
   assembly: "RV32IM, with the ABI's names, labels, pseudo-instructions, sections and macros. The "
     + "program starts at _start, else at main, else at its first instruction.",
   words: "Words of hexadecimal digits. # begins a comment, and name: is a label of the next word.",
+  halves: "Half-words of hexadecimal digits, as compressed code has them. # begins a comment, and name: "
+    + "is a label of the next one.",
 };
 
 /** Where the lines of a text begin. */

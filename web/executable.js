@@ -13,7 +13,6 @@ const ELF_REFUSALS = {
   7: (n) => `e_type is ${n}, not 2 (an executable)`,
   8: (n) => `e_machine is ${n}, not 243 (RISC-V)`,
   9: (n) => `e_version is ${n}, not 1`,
-  10: () => "e_flags: compressed code",
   11: () => "e_flags: a floating-point ABI",
   12: () => "e_flags: RVE, 16 registers",
   13: (n) => `e_phentsize is ${n}, not 32`,
@@ -24,7 +23,7 @@ const ELF_REFUSALS = {
   18: (n) => `segment ${n}: p_filesz is above p_memsz`,
   19: (n) => `segment ${n}: it ends past the last address`,
   20: (n, other) => `segments ${n} and ${other}: they overlap`,
-  21: (n) => `e_entry is ${hex(n)}, no multiple of 4`,
+  21: (n, other, unit) => `e_entry is ${hex(n)}, no multiple of ${unit}`,
   22: (n) => `e_entry is ${hex(n)}, in no loaded segment`,
 };
 
@@ -36,13 +35,15 @@ function isElf(bytes) {
   return [0x7f, 0x45, 0x4c, 0x46].every((byte, at) => bytes[at] === byte);
 }
 
-/** The program that an executable is: a text of words from the page of its lowest address on, with
- * the names of its functions as labels and `_start` at its entry, for a memory of MOST_BYTES, with
- * Linux's calls and a stack, and which of its words are read-only. Throws a ProgramError. */
+/** The program that an executable is: a text of words, or of half-words where it has compressed code,
+ * from the page of its lowest address on, with the names of its functions as labels and `_start` at its
+ * entry, for a memory of MOST_BYTES, with Linux's calls and a stack, and which of its words are
+ * read-only. Throws a ProgramError. */
 async function programOfElf(kit, bytes) {
   const file = await ElfFile.of(kit, bytes);
+  const unit = file.hasCompressed ? 2 : 4;
   if (file.refusal !== 0) {
-    const what = ELF_REFUSALS[file.refusal](file.number, file.other);
+    const what = ELF_REFUSALS[file.refusal](file.number, file.other, unit);
     throw new ProgramError(0, `It is no executable for this machine: ${what}.`);
   }
   const segments = file.segments().filter(({ memorySize }) => memorySize > 0);
@@ -58,18 +59,21 @@ async function programOfElf(kit, bytes) {
   const words = file.load(base, MOST_BYTES / 4);
   if (words === null) throw new ProgramError(0, `There is no memory from ${hex(base)} on.`);
   const last = Math.max(...segments.map(({ address, fileSize }) => address + fileSize));
-  const labels = labelsOfElf(file, segments, base);
-  const text = textOfWords(words.subarray(0, Math.ceil((last - base) / 4)), labels);
-  const code = codeOfElf(segments, base);
-  return { text, language: "words", base, size: MOST_BYTES, hasStack: true, calls: "linux", code };
+  const parts = unit === 4 ? words : new Uint16Array(words.buffer, words.byteOffset, 2 * words.length);
+  const labels = labelsOfElf(file, segments, base, unit);
+  const text = textOfWords(parts.subarray(0, Math.ceil((last - base) / unit)), labels);
+  const code = codeOfElf(segments, base, unit);
+  const language = unit === 4 ? "words" : "halves";
+  return { text, language, base, size: MOST_BYTES, hasStack: true, calls: "linux", code };
 }
 
-/* Of each word of memory whether it is executed and not written to. */
-function codeOfElf(segments, base) {
-  const code = new Uint8Array(MOST_BYTES / 4);
+/* Of each word or half-word of memory whether it is executed and not written to. */
+function codeOfElf(segments, base, unit) {
+  const code = new Uint8Array(MOST_BYTES / unit);
   for (const { address, fileSize, flags } of segments) {
     const isCode = (flags & IS_CODE) !== 0 && (flags & IS_WRITABLE) === 0;
-    if (isCode) code.fill(1, (address - base) >>> 2, (address - base + fileSize + 3) >>> 2);
+    const first = Math.floor((address - base) / unit);
+    if (isCode) code.fill(1, first, Math.ceil((address - base + fileSize) / unit));
   }
   return code;
 }
@@ -77,13 +81,14 @@ function codeOfElf(segments, base) {
 /* What a name has to be for a label of a text of words. */
 const ELF_NAME = /^[A-Za-z_.$][\w.$]*$/;
 
-/* The labels by the number of their word: the functions of the segments with code, each once. A
- * name that an earlier function has is followed by its address, and `_start` is the entry's alone. */
-function labelsOfElf(file, segments, base) {
-  const labels = new Map([[(file.entry - base) / 4, ["_start"]]]);
+/* The labels by the number of their word or half-word: the functions of the segments with code, each
+ * once. A name that an earlier function has is followed by its address, and `_start` is the entry's
+ * alone. */
+function labelsOfElf(file, segments, base, unit) {
+  const labels = new Map([[(file.entry - base) / unit, ["_start"]]]);
   const taken = new Set(["_start"]);
   for (const { address, name } of functionsOfElf(file, segments)) {
-    const index = Math.floor((address - base) / 4);
+    const index = Math.floor((address - base) / unit);
     if (!ELF_NAME.test(name) || name === "_start" && address === file.entry) continue;
     const label = taken.has(name) ? `${name}.${hexOf(address)}` : name;
     taken.add(label);
@@ -110,10 +115,10 @@ function functionsOfElf(file, segments) {
   return found.sort((a, b) => a.address - b.address);
 }
 
-/* A text of words, each with its labels before it. */
+/* A text of words or half-words, each with its labels before it. */
 function textOfWords(words, labels) {
   return Array.from(words, (word, index) => {
     const names = (labels.get(index) ?? []).map((name) => `${name}:\n`).join("");
-    return `${names}0x${hexOf(word)}\n`;
+    return `${names}0x${hexOf(word, 2 * words.BYTES_PER_ELEMENT)}\n`;
   }).join("");
 }

@@ -114,7 +114,8 @@ const isOwnWord = ({ sources }, index) => (sources.get(index)?.line ?? 0) > 0;
 /* The name of the instruction in a word of the program, or "". */
 function nameAt({ machine: { kit, code, environment } }, index) {
   if (code === null || code[index] === 0) return "";
-  const word = kit.words[index];
+  // a compressed instruction has the name of what it stands for
+  const word = kit.wordOf(kit.bitsAt(kit.base + kit.unit * index) ?? 0);
   const text = kit.disassemble(word, 0) || (environment.hasTraps ? textOfMachineMode(word) : "");
   return text.split(" ")[0];
 }
@@ -165,12 +166,12 @@ class Doings {
 
   /* Looks at the calls of the steps that a machine made since so many. Their records are there. */
   lookAtCalls(steps) {
-    const { session, session: { machine: { history, kit } } } = this;
+    const { session, session: { machine, machine: { history, kit } } } = this;
     if (!this.seeksCalls) return;
     for (let step = steps; step < history.steps; step++) {
       const at = history.placeOf(step);
-      if (kindOfJump(kit.u32[at + RECORD.word]) !== "call") continue;
-      const index = (kit.u32[at + RECORD.pc] - kit.base) >>> 2;
+      if (kindOfJump(kit.wordOf(kit.u32[at + RECORD.word])) !== "call") continue;
+      const index = machine.indexOf(kit.u32[at + RECORD.pc]);
       if (!isOwnWord(session, index)) continue;
       const next = step + 1 < history.steps
         ? kit.u32[history.placeOf(step + 1) + RECORD.pc] : kit.pc;
@@ -227,7 +228,7 @@ const JUDGED_AT_ONCE = 1 << 14;
 /* Runs a program from where it stands to its end, or null after so many steps. `pause` is called
  * between slices. */
 async function runJudged(machine, limit, doings, pause) {
-  const stops = new Uint8Array(machine.kit.words.length);
+  const stops = new Uint8Array(machine.kit.parts.length);
   let end = null;
   while (end === null && machine.steps < limit) {
     const { steps } = machine;

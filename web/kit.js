@@ -12,6 +12,7 @@ const LAYOUT = {
     size: 72, insn: 8, pcBefore: 20, rd: 44, rdValue: 48, memoryAddress: 52,
     readMask: 56, writeMask: 60, readValue: 64, writtenValue: 68,
   },
+  reservation: { size: 8 },
   change: {
     size: 28, pc: 0, lastBefore: 4, rd: 8, rdBefore: 12, address: 16, stored: 20, bytesBefore: 24,
   },
@@ -41,8 +42,28 @@ const LAYOUT = {
   boardEnd: { size: 16, steps: 0, event: 8, value: 12 },
 };
 
-/* The bits of a profile: extension A, and user mode. */
-const PROFILE = { ATOMICS: 1, USER_MODE: 2 };
+/* The bits of a profile, of a hart and of machine mode, that are Zba, Zbb and Zbs. */
+const BIT_PROFILE = 32 | 64 | 128;
+
+/* Whether a row is one of these, as rrs.h numbers them. */
+const isRowOfBits = (row) => row >= 69 && row <= 97;
+
+/* What the hart of a process has beside the 48 rows, as bits of its profile: extension A, fence.i,
+ * loads and stores at misaligned addresses, and Zba, Zbb and Zbs. */
+const PROCESS_PROFILE = 1 | 2 | 4 | BIT_PROFILE;
+
+/* The bit of such a profile that is extension C. */
+const COMPRESSED_PROFILE = 8;
+
+/* The bits of a profile of machine mode: extension A, user mode, extension C, and those of Zba, Zbb and
+ * Zbs. */
+const PROFILE = { ATOMICS: 1, USER_MODE: 2, COMPRESSED: 4, BITS: BIT_PROFILE };
+
+/* What the hart of the board has, but for extension C. */
+const BOARD_PROFILE = PROFILE.ATOMICS | PROFILE.USER_MODE | PROFILE.BITS;
+
+/* The byte of an executable that has the lowest flags, and the one of compressed code. */
+const ELF_FLAGS = { at: 36, compressed: 1 };
 
 /* The alarm of a board that has none. */
 const NO_BOARD_ALARM = 2n ** 64n - 1n;
@@ -165,6 +186,10 @@ class Kit {
     this.lastAt = (this.hart + LAYOUT.hart.last) / 4;
     this.retiredAt = this.retired / 4;
     this.changeAt = this.change / 4;
+    // the address that is reserved
+    this.reserved = this.u32.subarray(this.reservation / 4, this.reservation / 4 + 2);
+    // the words that half-words stand for, as far as they were asked for
+    this.expanded = new Uint32Array(1 << 16);
     this.recordsAt = this.records / 4;
     this.setMemory(0, PAGE_BYTES);
   }
@@ -178,8 +203,8 @@ class Kit {
    * its words, and the records of steps. */
   placeStructs() {
     const places = new Places(this.exports);
-    const structs = ["hart", "fault", "retired", "change", "instruction", "access", "text", "name",
-      "csrs", "outcome", "machineRetired"];
+    const structs = ["hart", "fault", "retired", "reservation", "change", "instruction", "access",
+      "text", "name", "csrs", "outcome", "machineRetired"];
     for (const name of structs) this[name] = places.of(LAYOUT[name].size);
     this.memory = places.of(MOST_BYTES);
     this.hartCopy = places.of(LAYOUT.hart.size);
@@ -201,13 +226,17 @@ class Kit {
     return this.wide[0];
   }
 
-  /** Has `size` bytes of memory from `base` on, both multiples of 4, with what they held. */
-  setMemory(base, size) {
+  /** Has `size` bytes of memory from `base` on, both multiples of 4, with what they held. An
+   * instruction begins at a multiple of `unit`: 4, or 2 where the hart has extension C. */
+  setMemory(base, size, unit = 4) {
     this.base = base;
     this.size = size;
+    this.unit = unit;
     this.count = BigInt(size / 4);
     this.words = this.u32.subarray(this.memory / 4, (this.memory + size) / 4);
     this.bytes = this.u8.subarray(this.memory, this.memory + size);
+    this.parts = unit === 4 ? this.words : new Uint16Array(this.u8.buffer, this.memory, size / 2);
+    this.profile = unit === 4 ? 0 : COMPRESSED_PROFILE;
   }
 
   get pc() { return this.u32[this.pcAt]; }
@@ -215,13 +244,100 @@ class Kit {
   get last() { return this.u32[this.lastAt]; }
   set last(value) { this.u32[this.lastAt] = value; }
 
+  /** The bits of the instruction at an address, or undefined where none can begin there: a word, or
+   * with extension C a half-word, where its low bits are not 11. */
+  bitsAt(address) {
+    const index = (address - this.base) / this.unit;
+    const part = this.parts[index];
+    if (this.unit === 4 || (part & 3) !== 3) return part;
+    const second = this.parts[index + 1];
+    return second === undefined ? undefined : (part | second << 16) >>> 0;
+  }
+
+  /** How many bytes an instruction has. */
+  sizeOf(bits) {
+    return this.unit === 2 && (bits & 3) !== 3 ? 2 : 4;
+  }
+
+  /** The word that an instruction is, or that one of 2 bytes stands for; 0 where it is none. */
+  wordOf(bits) {
+    if (this.sizeOf(bits) === 4) return bits;
+    if (this.expanded[bits] === 0) this.expanded[bits] = this.exports.rrs_expand(bits);
+    return this.expanded[bits];
+  }
+
   /** Makes a step, and notes in the words from `change` on what takes it back. Returns the kind of
    * its fault, or 0. */
   stepNoted(change) {
+    if (this.unit === 2) {
+      const bits = this.bitsAt(this.pc);
+      if (this.sizeOf(bits) === 2 || this.pc % 4 !== 0) return this.stepByHalves(change, bits);
+    }
     const at = this.addresses;
     this.exports.rrs_step_noted(
       at.fault, at.hart, at.memory, this.count, this.base, this.addressOf(change));
     return this.u32[this.fault / 4];
+  }
+
+  /* Makes a step of 2 bytes, or at no multiple of 4, and notes what takes it back: the register, and
+   * the bytes that a store replaces, as many as its word says. */
+  stepByHalves(change, bits) {
+    const { u32, x } = this;
+    const word = this.wordOf(bits ?? 0);
+    this.exports.rrs_decode(this.addresses.instruction, word);
+    const field = (offset) => u32[(this.instruction + offset) / 4];
+    const { rd: rdAt, rs1, imm } = LAYOUT.instruction;
+    const rd = field(rdAt);
+    u32[change + RECORD.pc] = this.pc;
+    u32[change + RECORD.lastBefore] = this.last;
+    u32[change + RECORD.stored] = 0;
+    this.noteWritten(change, rd);
+    const isStore = (word & 0x7f) === OPCODE.STORE;
+    if (isStore) this.noteStore(change, x[field(rs1)] + field(imm) >>> 0, bytesOf(word));
+    return this.stepHart(0);
+  }
+
+  /** Makes the step at the pc that was noted, and is illegal without Zba, Zbb and Zbs, where it is of
+   * these, and notes its register. Returns the kind of its fault, or 0. */
+  stepBits(change) {
+    const { row, rd } = this.decode(this.bitsAt(this.pc));
+    if (!isRowOfBits(row)) return FAULT.ILLEGAL;
+    this.noteWritten(change, rd);
+    return this.stepHart(PROCESS_PROFILE);
+  }
+
+  /** Notes that a step writes a register, or none by 0. It has its old value yet. */
+  noteWritten(change, rd) {
+    const { u32, x } = this;
+    u32[change + RECORD.rd] = rd;
+    u32[change + RECORD.rdBefore] = x[rd];
+  }
+
+  /* Notes the bytes that a store replaces, at an address. */
+  noteStore(change, address, size) {
+    const at = address - this.base;
+    let before = 0;
+    for (let each = size - 1; each >= 0; each--) before = 256 * before + this.bytes[at + each];
+    this.u32[change + RECORD.address] = address;
+    this.u32[change + RECORD.stored] = size;
+    this.u32[change + RECORD.bytesBefore] = before;
+  }
+
+  /** Makes a step of a hart with a profile, and leaves what it retired in `retired`. Returns the kind
+   * of its fault, or 0. */
+  stepHart(profile, at = this.addresses) {
+    this.exports.rrs_step_hart_rvfi(at.fault, at.hart, at.memory, this.count, this.base,
+      profile | this.profile, at.reservation, 0n, at.retired);
+    return this.u32[this.fault / 4];
+  }
+
+  /** The load or the store of what is in `retired`: its address, its value, and the masks of its
+   * bytes. Where it is both, the value is that which was stored. */
+  get accessRetired() {
+    const read = (field) => this.u32[this.retiredAt + RETIRED[field]];
+    const [address, readMask, writeMask] = ["memoryAddress", "readMask", "writeMask"].map(read);
+    const value = read(writeMask ? "writtenValue" : "readValue");
+    return { address, value, readMask, writeMask };
   }
 
   /** Makes a step of a hart with machine mode, at a time, where some interrupts are pending. Returns how
@@ -243,9 +359,10 @@ class Kit {
     return [this.pc, this.last, register, this.x[register], 0, 0, 0];
   }
 
-  /** The words of a change that takes back what it is about to write into the word at an index. */
-  noteWord(index) {
-    return [this.pc, this.last, 0, 0, this.base + 4 * index, 4, this.words[index]];
+  /** The words of a change that takes back what it is about to write into the word at an address. */
+  noteWord(address) {
+    const start = address - address % 4;
+    return [this.pc, this.last, 0, 0, start, 4, this.words[(start - this.base) / 4]];
   }
 
   /** Takes a change back that is given as its words. */
@@ -260,49 +377,64 @@ class Kit {
     this.u8.copyWithin(this.memoryCopy, this.memory, this.memory + this.size);
   }
 
-  /** Makes a step in the copy, and leaves what it retired in `retired`. */
-  stepRetired() {
-    const at = this.copied;
-    this.exports.rrs_step_rvfi(at.fault, at.hart, at.memory, this.count, this.base, 0n, at.retired);
-  }
-
   /** The fault that the latest call told. */
   readFault() {
     const at = this.fault / 4;
     return { kind: this.u32[at], address: this.u32[at + 1], word: this.u32[at + 2] };
   }
 
-  /** The load or the store that `word`, the one at the pc, makes. Nothing changes. */
-  request(word) {
-    this.exports.rrs_request(this.addresses.access, this.addresses.hart, word);
+  /** The load or the store that the instruction at the pc makes. Nothing changes. */
+  request(bits) {
+    const { access, hart } = this.addresses;
+    this.atWord(() => this.exports.rrs_request(access, hart, this.wordOf(bits)));
     const read = (offset) => this.u32[(this.access + offset) / 4];
     const { kind, address, bytes, value } = LAYOUT.access;
     return { kind: read(kind), address: read(address), bytes: read(bytes), value: read(value) };
   }
 
-  /** Executes `word`, the one at the pc, whose access was made; a load has read `value`. */
-  complete(word, value) {
-    const at = this.addresses;
-    this.exports.rrs_complete(at.fault, at.hart, word, 1, value);
-    return this.u32[this.fault / 4];
+  /** Executes the load or the store at the pc, whose access was made; a load has read `value`. */
+  complete(bits, value) {
+    const { fault, hart } = this.addresses;
+    this.atWord(() => this.exports.rrs_complete(fault, hart, this.wordOf(bits), 1, value));
+    this.pc += this.sizeOf(bits);
   }
 
-  /** The number of the row of a word, 1 to 48, one above the table, or 0, and its fields: registers,
-   * shift amount, and immediate, which is signed. */
-  decode(word) {
-    this.exports.rrs_decode(this.addresses.instruction, word);
-    const { row, rd, rs1, rs2, shamt, imm } = LAYOUT.instruction;
+  /* Has a load or a store carried out as one at a multiple of 4, since the two calls have no other.
+   * The pc stays. */
+  atWord(carryOut) {
+    const { pc } = this;
+    this.pc -= pc % 4;
+    carryOut();
+    this.pc = pc;
+  }
+
+  /** The number of the row of an instruction, 1 to 48, one above the table, or 0. */
+  rowOf(bits) {
+    this.exports.rrs_decode(this.addresses.instruction, this.wordOf(bits));
+    return this.u32[(this.instruction + LAYOUT.instruction.row) / 4];
+  }
+
+  /** The number of the row of an instruction, and its fields: registers, shift amount, and immediate,
+   * which is signed. */
+  decode(bits) {
+    const row = this.rowOf(bits);
+    const { rd, rs1, rs2, shamt, imm } = LAYOUT.instruction;
     const read = (offset) => this.u32[(this.instruction + offset) / 4];
     return {
-      row: read(row), rd: read(rd), rs1: read(rs1), rs2: read(rs2), shamt: read(shamt),
-      imm: read(imm) | 0,
+      row, rd: read(rd), rs1: read(rs1), rs2: read(rs2), shamt: read(shamt), imm: read(imm) | 0,
     };
   }
 
-  /** The text of a word at an address, or "" for an illegal instruction. */
-  disassemble(word, pc) {
+  /** Whether an instruction is one of Zba, Zbb or Zbs. */
+  isOfBits(bits) {
+    return isRowOfBits(this.rowOf(bits));
+  }
+
+  /** The text of an instruction at an address, or "" for an illegal one. */
+  disassemble(bits, pc) {
     const room = BigInt(LAYOUT.text.size);
-    const length = Number(this.exports.rrs_disassemble(word, pc, this.addresses.text, room));
+    const length = Number(
+      this.exports.rrs_disassemble_hart(bits, pc, this.profile, this.addresses.text, room));
     return String.fromCharCode(...this.u8.subarray(this.text, this.text + length));
   }
 
@@ -475,20 +607,33 @@ class BoardKit {
   /** Has the board at reset, with all of RAM 0, at an address. */
   reset(pc) {
     this.bytes.fill(0);
-    const profile = PROFILE.ATOMICS | PROFILE.USER_MODE;
-    this.exports.rrs_board_reset(BigInt(this.board), profile, pc);
+    this.exports.rrs_board_reset(BigInt(this.board), BOARD_PROFILE, pc);
+  }
+
+  /** Whether the hart has extension C. */
+  get hasCompressed() {
+    return (this.csrs[LAYOUT.csrs.profile / 4] & PROFILE.COMPRESSED) !== 0;
+  }
+
+  set hasCompressed(has) {
+    this.csrs[LAYOUT.csrs.profile / 4] = BOARD_PROFILE | (has ? PROFILE.COMPRESSED : 0);
   }
 
   /** Puts the segments of an executable into RAM, each at its physical address, and the hart at the
-   * entry. Returns whether all of them lie in it. */
+   * entry. The hart has extension C where the file has compressed code. Returns whether all of them
+   * lie in it; if not, the hart stays as it is. */
   loadElf(file) {
     const at = this.places.of(file.length);
     this.view(this.bytes.length);
+    const hadCompressed = this.hasCompressed;
+    this.hasCompressed = (file[ELF_FLAGS.at] & ELF_FLAGS.compressed) !== 0;
     new Uint8Array(this.exports.memory.buffer, at, file.length).set(file);
     this.exports.rrs_board_load(BigInt(this.loaded), BigInt(this.board), BigInt(at),
       BigInt(file.length), BigInt(this.ram), this.count);
     this.places.next = at;
-    return this.data.getUint32(this.loaded + LAYOUT.loaded.refusal, true) === 0;
+    const isLoaded = this.data.getUint32(this.loaded + LAYOUT.loaded.refusal, true) === 0;
+    if (!isLoaded) this.hasCompressed = hadCompressed;
+    return isLoaded;
   }
 
   /** Makes steps until `limit` were made, or a device has something for the caller: `{ steps, event,
@@ -511,10 +656,15 @@ class BoardKit {
     return this.exports.rrs_board_waits_for_input(BigInt(this.board)) !== 0;
   }
 
-  /** The text of a word at an address, or "" where it is no instruction. */
-  disassemble(word, pc) {
-    const length = Number(this.exports.rrs_disassemble(
-      word, pc, BigInt(this.text), BigInt(LAYOUT.text.size)));
+  /** The text of the instruction at an address, which lies `offset` bytes behind the start of RAM, or
+   * "" where there is none. */
+  textAt(offset, pc) {
+    const isThere = offset >= 0 && offset + 4 <= this.bytes.length;
+    if (!isThere || offset % (this.hasCompressed ? 2 : 4) !== 0) return "";
+    const profile = this.hasCompressed ? COMPRESSED_PROFILE : 0;
+    const length = Number(this.exports.rrs_disassemble_hart(
+      this.data.getUint32(this.ram + offset, true), pc, profile, BigInt(this.text),
+      BigInt(LAYOUT.text.size)));
     const letters = new Uint8Array(this.exports.memory.buffer, this.text, length);
     return String.fromCharCode(...letters);
   }
@@ -541,7 +691,9 @@ class ElfFile {
     this.u8 = new Uint8Array(exports.memory.buffer);
     this.u8.set(bytes, this.file);
     this.given = [BigInt(this.file), BigInt(bytes.length)];
-    exports.rrs_elf_parse(BigInt(this.elf), ...this.given);
+    this.hasCompressed = (bytes[ELF_FLAGS.at] & ELF_FLAGS.compressed) !== 0;
+    this.profile = this.hasCompressed ? COMPRESSED_PROFILE : 0;
+    exports.rrs_elf_parse_hart(BigInt(this.elf), ...this.given, this.profile);
     const { refusal, number, other, entry } = this.read("elf");
     Object.assign(this, { refusal, number, other, entry });
   }
@@ -566,8 +718,8 @@ class ElfFile {
    * null where one is not within them. */
   load(base, count) {
     const words = this.u32.subarray(this.words / 4, this.words / 4 + count).fill(0);
-    this.exports.rrs_elf_load(
-      BigInt(this.loaded), ...this.given, BigInt(this.words), BigInt(count), base);
+    this.exports.rrs_elf_load_hart(
+      BigInt(this.loaded), ...this.given, BigInt(this.words), BigInt(count), base, this.profile);
     return this.read("loaded").refusal === 0 ? words : null;
   }
 

@@ -19,9 +19,14 @@ const MOST_TRANSFERRED = 0x7ffff000;
 const RUN_BYTES = 1 << 16;
 
 /* Instructions that were executed are counted by these bits of a word: the opcode, funct3, and the
- * two bits of funct7 that tell rows apart. Words of different rows that retire differ in them. */
-const KINDS = 1 << 10;
-function kindOf(word) {
+ * two bits of funct7 that tell the rows of the table apart. Words of different rows that retire differ
+ * in them, but for those with an operation that has other bits of funct7: these are counted by their
+ * rows. Behind these kinds is one for each half-word. */
+const ROWS_AT = 1 << 10;
+const KINDS = ROWS_AT + 128;
+function kindOf(word, kit) {
+  if ((word & 3) !== 3) return KINDS + word;
+  if (isAboveTable(word)) return ROWS_AT + kit.rowOf(word);
   const opcode = word >>> 2 & 31;
   if (isAtomic(word)) return opcode | word >>> 27 << 5;
   // a call, or mret or wfi, which two other bits tell apart
@@ -29,9 +34,51 @@ function kindOf(word) {
   return opcode | (word >>> 12 & 7) << 5 | (word >>> 30 & 1) << 8 | (word >>> 25 & 1) << 9;
 }
 
+/* Whether a word that retires is an operation on registers, or one with an amount, of no row of the
+ * table, as its funct7 says. */
+function isAboveTable(word) {
+  const isOperation = (word & 0x7f) === 0x33 || (word & 0x307f) === 0x1013;
+  return isOperation && (word & 0xbc000000) !== 0;
+}
+
 /* How many bytes of a buffer a call may transfer, or an error where it passes the last address. */
 function mostTransferred(address, count) {
   return address + count > 2 ** 32 ? BAD_ADDRESS : Math.min(count, MOST_TRANSFERRED);
+}
+
+/* Whether the hart of a process may make the step that ended with a fault: an instruction of
+ * extension A, fence.i, or a load or a store at a misaligned address. */
+function isOfProcess({ kit, isProcess, environment }, fault, word) {
+  if (!isProcess || !environment.hasProcesses) return false;
+  if (fault.kind === FAULT.MISALIGNED) return kit.pc % kit.unit === 0;
+  return fault.kind === FAULT.ILLEGAL && (isAtomic(word) || isFenceI(word));
+}
+
+/* Has the library make a step by the hart of a process. Answers null where it is made, or an end. */
+function stepOfProcess(machine, fault, word) {
+  const { kit, history, terminal } = machine;
+  const from = fault.kind === FAULT.MISALIGNED ? fault.address : kit.x[word >>> 15 & 31];
+  const places = [from, from + 3].filter((address) => machine.indexOf(address) >= 0);
+  const changes = places.map((address) => kit.noteWord(address));
+  const reserved = kit.reserved.slice();
+  history.noteWritten(kit.decode(word).rd);
+  const isMade = kit.stepHart(PROCESS_PROFILE) === FAULT.NONE;
+  const access = isMade ? kit.accessRetired : NO_ACCESS;
+  const stored = storedBy(access);
+  const isCode = machine.isCode(stored);
+  if (isMade && !isCode) {
+    machine.keep(word, { access, stored, changes, reserved, mark: terminal.mark() });
+    return null;
+  }
+  history.takeChangesBack(changes, kit.addresses);
+  kit.reserved.set(reserved);
+  if (!isMade) return { reason: "fault", ...kit.readFault() };
+  return { reason: "fault", kind: FAULT.STORE, address: stored.address, word: 0, isCode };
+}
+
+/* The bytes that an access stores, or null. */
+function storedBy({ address, writeMask }) {
+  return writeMask === 0 ? null : { address, length: 32 - Math.clz32(writeMask) };
 }
 
 /** A machine that runs one program, and can take its steps back. */
@@ -48,14 +95,16 @@ class Machine {
   }
 
   /** Has `size` bytes of memory from `base` on, with the words at its start, and starts `entry`
-   * bytes behind it. With a stack sp starts as the end of memory, or so many bytes below it. `code`
-   * is null, or has 1 for each word that is an instruction: these are read-only. */
-  load(words, base, size, hasStack, entry = 0, aboveStack = 0, code = null) {
-    this.kit.setMemory(base, size);
+   * bytes behind it. With a stack sp starts as the end of memory, or so many bytes below it, which
+   * are what a process is given. `code` is null, or has 1 for each word that is an instruction: these
+   * are read-only. With a `unit` of 2 there are half-words in the place of words. */
+  load(words, base, size, hasStack, entry = 0, aboveStack = 0, code = null, unit = 4) {
+    this.kit.setMemory(base, size, unit);
     this.entry = base + entry;
-    this.program = Uint32Array.from(words);
+    this.program = this.kit.parts.constructor.from(words);
     this.hasStack = hasStack;
     this.aboveStack = aboveStack;
+    this.isProcess = aboveStack > 0;
     this.code = code;
     this.stopsAtOutput = false;
     this.reset();
@@ -71,18 +120,20 @@ class Machine {
     if (isRars) kit.x[REGISTER.GP] = RARS_PLACES.gp;
     kit.pc = this.entry;
     kit.last = 0;
+    kit.reserved.fill(0);
     // the call of a case that it begins at
     this.called = null;
     kit.words.fill(0);
-    kit.words.set(this.program);
+    kit.parts.set(this.program);
     // what is cleared costs less than what is new
-    if (this.executed?.length === kit.words.length) this.executed.fill(0);
-    else this.executed = new Float64Array(kit.words.length);
-    this.kinds = new Float64Array(KINDS);
-    this.wordOfKind = new Uint32Array(KINDS);
+    if (this.executed?.length === kit.parts.length) this.executed.fill(0);
+    else this.executed = new Float64Array(kit.parts.length);
+    const kinds = kit.unit === 2 ? KINDS + (1 << 16) : KINDS;
+    this.kinds = new Float64Array(kinds);
+    this.wordOfKind = new Uint32Array(kinds);
     this.transferred = 0;
     // where more memory begins that a program asks for
-    const end = kit.base + 4 * this.program.length;
+    const end = kit.base + kit.unit * this.program.length;
     this.heap = isRars ? Math.max(end, RARS_PLACES.heap) : end;
     this.break = this.heapRange().first;
     this.random = 0n;
@@ -100,26 +151,45 @@ class Machine {
     return this.history.steps;
   }
 
-  /** The number of the word at an address, or -1 where there is none. */
+  /** The number of the word, or of the half-word, at an address, or -1 where there is none. */
   indexOf(address) {
-    const offset = address - this.kit.base;
-    return offset >= 0 && offset < this.kit.size ? Math.floor(offset / 4) : -1;
+    const { base, size, unit } = this.kit;
+    const offset = address - base;
+    return offset >= 0 && offset < size ? Math.floor(offset / unit) : -1;
   }
 
-  /** The word at the pc, or undefined. */
+  /** The instruction at the pc, or undefined. */
+  bitsAtPc() {
+    return this.kit.bitsAt(this.kit.pc);
+  }
+
+  /** The word that the instruction at the pc is or stands for, or undefined. */
   wordAtPc() {
-    return this.kit.pc % 4 === 0 ? this.kit.words[this.indexOf(this.kit.pc)] : undefined;
+    const bits = this.bitsAtPc();
+    return bits === undefined ? undefined : this.kit.wordOf(bits);
+  }
+
+  /** Whether the hart has Zba, Zbb and Zbs: that of a process and that of machine mode. */
+  get hasBits() {
+    return this.isProcess && this.environment.hasProcesses || this.environment.hasTraps;
+  }
+
+  /** Makes a step, and notes what takes it back. Returns the kind of its fault, or 0. */
+  stepNoted() {
+    const { kit, history: { next } } = this;
+    const kind = kit.stepNoted(next);
+    return kind === FAULT.ILLEGAL && this.hasBits ? kit.stepBits(next) : kind;
   }
 
   /** Makes one step. Returns null where it was made, and else why it was not: an end. */
   step() {
     const { kit, history } = this;
-    const word = kit.words[(kit.pc - kit.base) >>> 2];
-    if (word === RETURN_WORD && kit.x[REGISTER.RA] === 0 && this.code !== null) {
+    const word = this.bitsAtPc();
+    if (kit.x[REGISTER.RA] === 0 && this.code !== null && this.wordAtPc() === RETURN_WORD) {
       return { reason: "returned" };
     }
     if (this.environment.hasTraps) return stepWithTraps(this);
-    if (kit.stepNoted(history.next) === FAULT.NONE) {
+    if (this.stepNoted() === FAULT.NONE) {
       if (this.code !== null && this.hasStoredToCode()) return this.refuseStore();
       this.keep(word);
       return null;
@@ -132,8 +202,17 @@ class Machine {
 
   /* Whether the step that was just made stored to an instruction. */
   hasStoredToCode() {
-    const { kit: { u32, base }, history: { next }, code } = this;
-    return u32[next + RECORD.stored] > 0 && code[(u32[next + RECORD.address] - base) >>> 2] === 1;
+    const { kit: { u32 }, history: { next } } = this;
+    const length = u32[next + RECORD.stored];
+    return length > 0 && this.isCode({ address: u32[next + RECORD.address], length });
+  }
+
+  /** Whether bytes that are stored are instructions of the program. */
+  isCode(stored) {
+    const { code } = this;
+    if (stored === null || code === null) return false;
+    const { address, length } = stored;
+    return [0, 1, 2, 3].some((at) => at < length && code[this.indexOf(address + at)] === 1);
   }
 
   /* Takes the step that was just made back: an end. */
@@ -146,13 +225,13 @@ class Machine {
 
   /** Whether the pc is a stop: an instruction that begins there, and is marked in `stops`. */
   isAtStop(stops) {
-    const { pc, base } = this.kit;
-    return pc % 4 === 0 && stops[(pc - base) >>> 2] > 0;
+    const { pc, base, unit } = this.kit;
+    return stops[(pc - base) / unit] > 0;
   }
 
   /** Makes steps until one ends, `most` were made, the pc is a stop, calls have transferred
-   * RUN_BYTES, or one waits. `stops` has a number that is not 0 for each word to stop at; the first step is made
-   * wherever the pc is. */
+   * RUN_BYTES, or one waits. `stops` has a number that is not 0 for each word or half-word to stop
+   * at; the first step is made wherever the pc is. */
   run(most, stops) {
     this.convention.follow();
     const end = this.makeSteps(most, stops);
@@ -182,8 +261,8 @@ class Machine {
     const { kit, history } = this;
     const pc = kit.u32[history.next + RECORD.pc];
     history.push(word, extra);
-    this.executed[(pc - kit.base) >>> 2]++;
-    const kind = kindOf(word);
+    this.executed[(pc - kit.base) / kit.unit]++;
+    const kind = kindOf(word, kit);
     this.kinds[kind]++;
     this.wordOfKind[kind] = word;
   }
@@ -192,6 +271,7 @@ class Machine {
   serve(word) {
     const fault = this.kit.readFault();
     if (fault.kind === FAULT.ECALL) return this.serveCall(fault, word);
+    if (isOfProcess(this, fault, word)) return stepOfProcess(this, fault, word);
     if (fault.kind === FAULT.ILLEGAL && isCounterRead(word)) return serveCounter(this, word);
     const isAccess = fault.kind === FAULT.LOAD || fault.kind === FAULT.STORE;
     if (isAccess && fault.address === PORT_ADDRESS) return this.servePort(fault, word);
@@ -313,10 +393,9 @@ class Machine {
   /* Stores what a call gives, and keeps the words that stood there. */
   storeBytes(address, given, extra) {
     const { kit } = this;
-    const offset = address - kit.base;
-    const end = (offset + given.length - 1) >>> 2;
-    for (let index = offset >>> 2; index <= end; index++) extra.changes.push(kit.noteWord(index));
-    kit.bytes.set(given, offset);
+    const end = address + given.length;
+    for (let at = address - address % 4; at < end; at += 4) extra.changes.push(kit.noteWord(at));
+    kit.bytes.set(given, address - kit.base);
     extra.stored = { address, length: given.length };
   }
 
@@ -338,10 +417,9 @@ class Machine {
   /** Changes a byte, or the word at a multiple of 4, of memory. */
   setMemory(address, value, bytes) {
     const { kit } = this;
-    const index = this.indexOf(address);
-    this.history.addChange(kit.noteWord(index));
+    this.history.addChange(kit.noteWord(address));
     if (bytes === 1) kit.bytes[address - kit.base] = value;
-    else kit.words[index] = value;
+    else kit.words[(address - kit.base) / 4] = value;
   }
 
   /* ---- the way back */
@@ -355,15 +433,15 @@ class Machine {
     if (extra?.traps !== undefined) this.traps.restore(extra.traps);
     else if (this.environment.hasTraps) this.traps.count(-1);
     if (extra?.cause !== undefined) return true;
-    const index = (kit.pc - kit.base) >>> 2;
-    this.executed[index]--;
-    this.kinds[kindOf(kit.words[index])]--;
+    this.executed[(kit.pc - kit.base) / kit.unit]--;
+    this.kinds[kindOf(this.bitsAtPc(), kit)]--;
     return true;
   }
 
   /* Takes back what a system call or the port did beside registers and memory. */
-  restore({ mark, heap, breakBefore, random, streams }) {
+  restore({ mark, heap, breakBefore, random, streams, reserved }) {
     this.terminal.restore(mark);
+    if (reserved !== undefined) this.kit.reserved.set(reserved);
     this.heap = heap ?? this.heap;
     this.break = breakBefore ?? this.break;
     this.random = random ?? this.random;
@@ -383,7 +461,7 @@ class Machine {
   /** How often each kind of instruction was executed: `{ name, word, count }`, most first. */
   counts() {
     const byName = new Map();
-    for (let kind = 0; kind < KINDS; kind++) {
+    for (let kind = 0; kind < this.kinds.length; kind++) {
       if (this.kinds[kind] === 0) continue;
       const word = this.wordOfKind[kind];
       const [name] = (this.kit.disassemble(word, 0) || textOfMachineMode(word)).split(" ");

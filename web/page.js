@@ -412,7 +412,7 @@ class Page {
     const move = moves[event.key];
     if (move === undefined) return false;
     event.preventDefault();
-    session.select(session.selected + move);
+    session.select(session.rowOf(session.selected) + move);
     this.listing.reveal(session.selected);
     return true;
   }

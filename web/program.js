@@ -13,7 +13,14 @@ class ProgramError extends Error {
 }
 
 /* What a text can be. */
-const LANGUAGES = { assembly: "assembly", words: "words of hexadecimal digits" };
+const LANGUAGES = {
+  assembly: "assembly",
+  words: "words of hexadecimal digits",
+  halves: "half-words of hexadecimal digits",
+};
+
+/* What is told of the parts of a text, by how many bytes a part has. */
+const PART_NAMES = { 2: "half-word", 4: "word" };
 
 const IN_ENGLISH = new Intl.NumberFormat("en");
 const numbered = (count) => IN_ENGLISH.format(count);
@@ -63,9 +70,10 @@ function parseValue(text, bytes) {
 /** Reads words of hexadecimal digits, with or without 0x, apart by blanks, commas or lines. A
  * comment begins with #, ; or //, and a name with : is a label of the next word. Answers the words,
  * the labels by the number of their word, the comments likewise by the first word of their line,
- * and where each label stands: its word and its place in the text. Or throws a ProgramError. */
-function parseWords(text) {
-  const program = { words: [], labels: new Map(), comments: new Map(), places: new Map() };
+ * and where each label stands: its word and its place in the text. Or throws a ProgramError. With a
+ * `unit` of 2 half-words stand in the place of words. */
+function parseWords(text, unit = 4) {
+  const program = { words: [], labels: new Map(), comments: new Map(), places: new Map(), unit };
   let firstOfLine = 0;
   for (let at = 0; at < text.length;) {
     const start = endOf(BLANKS, text, at);
@@ -92,13 +100,14 @@ function parsePart(text, at, program) {
     from = to;
   }
   if (from === part.length) return end;
+  const { unit } = program;
   const word = parseHex(part.slice(from));
-  if (Number.isNaN(word)) {
+  if (!(word < 256 ** unit)) {
     const shown = shortened(part.slice(from), 20);
     throw new ProgramError(
-      lineAt(text, at), `"${shown}" is no word of 1 to 8 hexadecimal digits`);
+      lineAt(text, at), `"${shown}" is no ${PART_NAMES[unit]} of 1 to ${2 * unit} hexadecimal digits`);
   }
-  if (program.words.length === MOST_BYTES / 4) {
+  if (program.words.length === MOST_BYTES / unit) {
     const most = numbered(MOST_BYTES);
     throw new ProgramError(0, `It has more than ${most} bytes, and a memory has no more.`);
   }
@@ -107,7 +116,7 @@ function parsePart(text, at, program) {
 }
 
 /* Adds a label of the next word, which stands at a place of the text. */
-function addLabel(name, text, at, { words, labels, places }) {
+function addLabel(name, text, at, { words, labels, places, unit }) {
   const index = words.length;
   const first = places.get(name);
   if (first) {
@@ -115,7 +124,7 @@ function addLabel(name, text, at, { words, labels, places }) {
     throw new ProgramError(
       lineAt(text, at), `the label ${shortened(name, 20)} stands on line ${line} too`);
   }
-  places.set(name, { index, offset: 4 * index, at });
+  places.set(name, { index, offset: unit * index, at });
   if (labels.has(index)) labels.get(index).push(name);
   else labels.set(index, [name]);
 }
@@ -137,11 +146,11 @@ function isTooLong(text) {
 
 /** Reads a program whose words fit `size` bytes, or throws a ProgramError. It starts at its first
  * word. With a label `_start` it starts there, as a process of Linux does. */
-function parseProgram(text, size) {
+function parseProgram(text, size, unit = 4) {
   if (isTooLong(text)) throw new ProgramError(0, TOO_LONG);
-  const program = parseWords(text);
-  if (program.words.length === 0) throw new ProgramError(0, "There is no word in it.");
-  refuseLarger(4 * program.words.length, size);
+  const program = parseWords(text, unit);
+  if (program.words.length === 0) throw new ProgramError(0, `There is no ${PART_NAMES[unit]} in it.`);
+  refuseLarger(unit * program.words.length, size);
   const start = program.places.get("_start");
   return {
     ...program, sources: new Map(), entry: start?.offset ?? 0, isProcess: start !== undefined,
@@ -157,7 +166,8 @@ function refuseLarger(bytes, size) {
 
 /** Reads a source of assembly for `size` bytes of memory from `base` on, or throws a ProgramError.
  * Beside what `parseProgram` answers: of each word at which a statement begins its line and text,
- * and where the program starts, in bytes from `base` on. */
+ * and where the program starts, in bytes from `base` on. One with compressed instructions has
+ * half-words in the place of words. */
 function parseAssembly(text, base, size, kit, mostRoom, given) {
   if (isTooLong(text)) throw new ProgramError(0, TOO_LONG);
   const made = assemble(text, base, kit, mostRoom, given, isOfRars({ base, size }));
@@ -168,27 +178,34 @@ function parseAssembly(text, base, size, kit, mostRoom, given) {
   }
   if (made.size === 0) throw new ProgramError(0, "There is no statement in it.");
   refuseLarger(made.size, size);
-  const words = new Uint32Array(Math.ceil(made.size / 4));
-  new Uint8Array(words.buffer).set(made.bytes);
+  const isShort = ({ text, address, size }) => !isDirective(text) && (address % 4 || size % 4);
+  const unit = made.statements.some(isShort) ? 2 : 4;
+  const bytes = new Uint8Array(Math.ceil(made.size / 4) * 4);
+  bytes.set(made.bytes);
+  const words = unit === 2 ? new Uint16Array(bytes.buffer) : new Uint32Array(bytes.buffer);
   const entry = made.entry - base;
   return {
     words,
+    unit,
     comments: new Map(),
-    ...placesOf(made.labels, base),
-    sources: sourcesOf(made.statements, base),
-    code: codeOf(made.statements, base, words.length),
-    entry: entry % 4 === 0 ? entry : 0,
+    ...placesOf(made.labels, base, unit),
+    sources: sourcesOf(made.statements, base, unit),
+    code: codeOf(made.statements, base, words.length, unit),
+    entry: entry % unit === 0 ? entry : 0,
   };
 }
 
+/* Whether a statement is a directive, or ends with one. */
+const isDirective = (text) => /(^|[;:]\s*)\./.test(text);
+
 /* The labels by the word in which they stand, and the place of each: its word, and how many bytes
  * it is behind the first address. */
-function placesOf(all, base) {
+function placesOf(all, base, unit) {
   const labels = new Map();
   const places = new Map();
   for (const { name, address } of all) {
     const offset = address - base;
-    const index = Math.floor(offset / 4);
+    const index = Math.floor(offset / unit);
     places.set(name, { index, offset });
     if (labels.has(index)) labels.get(index).push(name);
     else labels.set(index, [name]);
@@ -198,25 +215,25 @@ function placesOf(all, base) {
 
 /* The line and the text of the statement that begins in a word. Where an instruction is made of
  * several words, each behind the first has no text. */
-function sourcesOf(statements, base) {
+function sourcesOf(statements, base, unit) {
   const sources = new Map();
   for (const { line, text, address, size } of statements) {
-    const index = Math.floor((address - base) / 4);
+    const index = Math.floor((address - base) / unit);
     const before = sources.get(index);
     const all = before ? `${before.text}; ${text}` : text;
     sources.set(index, { line: before?.line ?? line, text: all });
-    if (!text.startsWith(".") && size > 4) sources.set(index + 1, { line, text: "" });
+    if (!text.startsWith(".") && size > 4) sources.set(index + 4 / unit, { line, text: "" });
   }
   return sources;
 }
 
 /* Of each word whether it is an instruction, and no data. */
-function codeOf(statements, base, count) {
-  const code = new Uint8Array(MOST_BYTES / 4);
+function codeOf(statements, base, count, unit) {
+  const code = new Uint8Array(MOST_BYTES / unit);
   for (const { text, address, size } of statements) {
-    if (/(^|[;:]\s*)\./.test(text)) continue;
-    const first = Math.floor((address - base) / 4);
-    code.fill(1, first, Math.min(count, first + Math.ceil(size / 4)));
+    if (isDirective(text)) continue;
+    const first = Math.floor((address - base) / unit);
+    code.fill(1, first, Math.min(count, first + Math.ceil(size / unit)));
   }
   return code;
 }
@@ -224,7 +241,7 @@ function codeOf(statements, base, count) {
 /** Reads a program in one of LANGUAGES, behind what is given of it, or throws a ProgramError. */
 function readProgram(text, language, base, size, kit, mostRoom, given = "") {
   return language === "assembly" ? parseAssembly(text, base, size, kit, mostRoom, given)
-    : parseProgram(text, size);
+    : parseProgram(text, size, language === "halves" ? 2 : 4);
 }
 
 /* What a text has no byte of: control characters, but for tabs and the ends of lines and pages. */

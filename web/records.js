@@ -44,9 +44,7 @@ class Records {
   /** Notes that the next step writes a register, or none by 0, which the library has not noted. It
    * has its old value yet. */
   noteWritten(rd) {
-    const { u32, x } = this.kit;
-    u32[this.next + RECORD.rd] = rd;
-    u32[this.next + RECORD.rdBefore] = x[rd];
+    this.kit.noteWritten(this.next, rd);
   }
 
   /** Keeps the step that was made and noted, with the word that it executed, and its extra or
@@ -125,12 +123,10 @@ class Records {
   /* The load or the store of the machine's step in the copy, with the masks of its bytes. */
   accessOf(place) {
     const { kit } = this;
-    kit.stepRetired();
-    const read = (field) => kit.u32[kit.retiredAt + RETIRED[field]];
-    const [address, readMask, writeMask] = ["memoryAddress", "readMask", "writeMask"].map(read);
-    const value = read(readMask ? "readValue" : "writtenValue");
+    kit.stepHart(BIT_PROFILE, kit.copied);
+    const access = kit.accessRetired;
     kit.undo(place, kit.copied);
-    return { address, value, readMask, writeMask };
+    return access;
   }
 
   /** The bytes that the latest step stored: their address and how many, or null. */

@@ -142,9 +142,11 @@ class BoardView {
   /* Takes the breakpoints from their field: addresses. None is changed where one is no address. */
   takeStops() {
     const all = $("board-stops").value.split(/[\s,]+/).filter((word) => word).map(parseHex);
-    const areSound = all.every((address) => address % 4 === 0);
+    const unit = this.board.kit?.hasCompressed ? 2 : 4;
+    const areSound = all.every((address) => address % unit === 0);
     $("board-stops").setAttribute("aria-invalid", !areSound);
-    $("board-stops").title = areSound ? "" : "Addresses are wanted, which are multiples of 4, as 0x80000010.";
+    $("board-stops").title = areSound ? ""
+      : `Addresses are wanted, which are multiples of ${unit}, as 0x80000010.`;
     if (areSound) this.board.stops = new Set(all);
   }
 
@@ -200,7 +202,6 @@ class BoardView {
     const values = [mode, ...BOARD_CSRS.map((name) => hex(kit.csrs[CSR[name]])),
       numbered(kit.time), kit.alarm === Infinity ? "none" : numbered(kit.alarm)];
     values.forEach((value, at) => setText(this.csrs[at].lastChild, value));
-    const word = kit.words[(kit.pc - RAM_START) / 4];
-    setText($("board-next"), word === undefined ? "" : kit.disassemble(word, kit.pc));
+    setText($("board-next"), kit.textAt(kit.pc - RAM_START, kit.pc));
   }
 }

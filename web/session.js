@@ -39,21 +39,40 @@ const NO_ARGUMENTS = 64;
 /* What a draft is that can't be read: a program of no words. */
 const NO_WORDS = {
   words: [], labels: new Map(), places: new Map(), comments: new Map(), sources: new Map(),
-  entry: 0, code: null,
+  entry: 0, code: null, unit: 4,
 };
 
 /* How many characters of a statement are told where it faults. */
 const STATEMENT_SHOWN = 60;
 
+/* The statement of the instruction before the one at a word or a half-word, or undefined. */
+const statementBefore = (sources, index, unit) =>
+  sources.get(index - 1) ?? (unit === 2 ? sources.get(index - 2) : undefined);
+
 /* The words at which the instructions of a line of the source begin, by the line. */
-function startsOf(sources, code) {
+function startsOf(sources, code, unit) {
   const starts = new Map();
   for (const [index, { line }] of sources) {
-    if (sources.get(index - 1)?.line === line || code !== null && code[index] === 0) continue;
+    const isLater = statementBefore(sources, index, unit)?.line === line;
+    if (isLater || code !== null && code[index] === 0) continue;
     if (starts.has(line)) starts.get(line).push(index);
     else starts.set(line, [index]);
   }
   return starts;
+}
+
+/* The half-words of a program at which the rows of the listing begin. The second one of an instruction
+ * of 4 bytes, or of a word of data, has none, but where a label stands there, or the pc has `entered`
+ * it. */
+function rowsOf({ program, code }, labels, entered) {
+  const rows = [];
+  for (let index = 0; index < program.length; index++) {
+    rows.push(index);
+    const isData = code !== null && code[index] === 0;
+    const isLong = isData ? index % 2 === 0 && code[index + 1] === 0 : (program[index] & 3) === 3;
+    if (isLong && !labels.has(index + 1) && !entered.has(index + 1)) index++;
+  }
+  return rows;
 }
 
 /** A machine with its program, breakpoints, and what was last said of it. */
@@ -69,30 +88,72 @@ class Session {
     this.onStops = () => {};
   }
 
-  /** The text of a word at an address, with the names of registers that were chosen, and a target
-   * by its label. */
-  disassemble(word, address, names = this.names) {
+  /** The text of an instruction at an address, with the names of registers that were chosen, and a
+   * target by its label. */
+  disassemble(bits, address, names = this.names) {
     const { kit, environment } = this.machine;
-    const listed = kit.disassemble(word, address);
-    const isOfMachine = listed === "" && (environment.hasTraps || isCounterRead(word));
-    const plain = isOfMachine ? textOfMachineMode(word) : inDecimal(listed);
+    const listed = kit.disassemble(bits, address);
+    const isOfMachine = listed === "" && (environment.hasTraps || isCounterRead(bits));
+    const plain = isOfMachine ? textOfMachineMode(bits) : inDecimal(listed);
     const text = withNames(plain, names);
-    return isJumpToTarget(word) ? text.replace(/0x[0-9a-f]{8}$/, this.labelled) : text;
+    const isToTarget = isJumpToTarget(kit.wordOf(bits));
+    return isToTarget ? text.replace(/0x[0-9a-f]{8}$/, this.labelled) : text;
   }
 
-  /** The text of a word of memory: its instruction, or what it is where the program has data. */
+  /** The text of a row of the listing that begins at a word or a half-word of memory: its
+   * instruction, or what it is where the program has data. */
   textAt(index) {
     const { machine: { kit, code, program, environment } } = this;
-    const word = kit.words[index];
+    const digits = this.digitsAt(index);
+    const word = Number(`0x${digits}`);
     const isData = code !== null && code[index] === 0 && index < program.length;
     if (isData) return environment.hasTraps && textOfMachineMode(word) ? this.disassemble(word, 0)
-      : textOfData(word);
-    return this.disassemble(word, kit.base + 4 * index);
+      : textOfData(word, digits.length / 2);
+    const address = kit.base + kit.unit * index;
+    const bits = kit.bitsAt(address);
+    return bits === undefined ? "" : this.disassemble(bits, address);
+  }
+
+  /** The digits of a row of the listing, of which a half-word has four. */
+  digitsAt(index) {
+    const { words, parts, unit } = this.machine.kit;
+    if (unit === 4) return hexOf(words[index]);
+    const isLong = this.partOf(this.rowOf(index) + 1) === index + 2;
+    return (isLong ? hexOf(parts[index + 1], 4) : "") + hexOf(parts[index], 4);
+  }
+
+  /** The row of the listing that has a word or a half-word, by its number. */
+  rowOf(index) {
+    if (this.rows === null) return index;
+    const behind = index - this.machine.program.length;
+    if (behind >= 0) return this.rows.length + behind;
+    let [low, high] = [0, this.rows.length];
+    while (high - low > 1) {
+      const middle = low + high >>> 1;
+      if (this.rows[middle] <= index) low = middle;
+      else high = middle;
+    }
+    return low;
+  }
+
+  /** The word or the half-word with which a row of the listing begins. */
+  partOf(row) {
+    if (this.rows === null) return row;
+    return this.rows[row] ?? this.machine.program.length + row - this.rows.length;
+  }
+
+  /* Has a row of the listing begin where the pc is. */
+  enterRow(index) {
+    const isWithin = index >= 0 && index < this.machine.program.length;
+    if (!isWithin || this.partOf(this.rowOf(index)) === index) return;
+    this.entered.add(index);
+    this.rows = rowsOf(this.machine, this.labels, this.entered);
   }
 
   /* The label at an address, as eight digits write it, or the address. */
   labelled = (text) => {
-    const index = (Number(text) - this.machine.kit.base) / 4;
+    const { base, unit } = this.machine.kit;
+    const index = (Number(text) - base) / unit;
     const [name] = this.labels.get(index) ?? [];
     return name === undefined ? text : shortened(name, LABEL_SHOWN);
   };
@@ -133,10 +194,10 @@ class Session {
     const { machine } = this;
     const read = isDraft ? this.readDraft(text, language, base, size, given)
       : this.read(text, language, base, size, undefined, given);
-    const { words, labels, places, comments, sources, entry, isProcess, mistake = "" } = read;
+    const { words, labels, places, comments, sources, entry, isProcess, mistake = "", unit } = read;
     const code = read.code ?? known;
     this.stop();
-    const starts = startsOf(sources, code);
+    const starts = startsOf(sources, code, unit);
     const kept = lineNow === null ? [] : this.stopsIn(places, starts, lineNow);
     Object.assign(
       this,
@@ -144,8 +205,10 @@ class Session {
         isDraft, mistake, call, given, seed, waitingStops: mistake ? stops : [] });
     machine.environment = ENVIRONMENTS[calls];
     machine.seed = seed;
-    machine.load(words, base, size, hasStack, entry, isProcess ? NO_ARGUMENTS : 0, code);
-    this.stops = new Uint8Array(size / 4);
+    machine.load(words, base, size, hasStack, entry, isProcess ? NO_ARGUMENTS : 0, code, unit);
+    this.entered = new Set();
+    this.rows = unit === 4 ? null : rowsOf(machine, labels, this.entered);
+    this.stops = new Uint8Array(size / machine.kit.unit);
     for (const index of [...kept, ...this.wordsAt(stops)]) {
       if (index < this.stops.length) this.stops[index] = STOP.BREAKPOINT;
     }
@@ -228,7 +291,8 @@ class Session {
     const line = this.lineOf(index);
     if (line === 0) return "";
     // a pseudo-instruction may be made of two words
-    const text = this.sources.get(index).text || this.sources.get(index - 1)?.text || "";
+    const { sources, machine: { kit: { unit } } } = this;
+    const text = sources.get(index).text || statementBefore(sources, index, unit)?.text || "";
     return `Line ${line}: ${shortened(text, STATEMENT_SHOWN)}. `;
   }
 
@@ -240,12 +304,12 @@ class Session {
   }
 
   start() {
-    const bytes = 4 * this.machine.program.length;
+    const bytes = this.machine.kit.unit * this.machine.program.length;
     const what = `${counted(bytes, "byte")} from ${hex(this.machine.kit.base)} on.`;
     const isPortCovered = !isOfRars(this.machine.kit) && this.machine.indexOf(PORT_ADDRESS) >= 0;
     const port = isPortCovered
       ? `Memory covers the port: a byte stored to ${hex(PORT_ADDRESS)} is not printed.` : "";
-    this.lines = this.machine.program.length + 1;
+    this.lines = this.rowOf(this.machine.program.length) + 1;
     this.machine.terminal.type(this.input);
     for (const each of this.memory) putMemory(this, each);
     if (this.call !== null) startCall(this, this.call);
@@ -261,7 +325,9 @@ class Session {
   say(heading, sentence, kind = "ready", calls = null, isFault = false) {
     this.notice = { heading, sentence, kind, calls, isFault };
     const { machine } = this;
-    this.lines = Math.max(this.lines, machine.indexOf(machine.kit.pc) + 1);
+    const index = machine.indexOf(machine.kit.pc);
+    this.enterRow(index);
+    this.lines = Math.max(this.lines, this.rowOf(index) + 1);
     this.onChange();
   }
 
@@ -309,7 +375,7 @@ class Session {
 
   sayBack() {
     const { steps, kit: { pc } } = this.machine;
-    const word = this.machine.wordAtPc();
+    const word = this.machine.bitsAtPc();
     this.say(`Back at step ${steps.toLocaleString("en")}`, byNames((names) =>
       (word === undefined ? "" : `Next: ${this.disassemble(word, pc, names)}`)));
   }
@@ -368,11 +434,11 @@ class Session {
 
   /** Makes the call that is next with all of its steps, or else one step. */
   stepOver() {
-    const { machine } = this;
-    const word = machine.wordAtPc();
-    const isCall = !this.mistake && word !== undefined && kindOfJump(word) === "call";
+    const { machine, machine: { kit } } = this;
+    const bits = machine.bitsAtPc();
+    const isCall = !this.mistake && bits !== undefined && kindOfJump(kit.wordOf(bits)) === "call";
     if (!isCall) return this.step();
-    return this.runToReturn((machine.kit.pc + 4) % 2 ** 32, depthOf(machine));
+    return this.runToReturn((kit.pc + kit.sizeOf(bits)) % 2 ** 32, depthOf(machine));
   }
 
   /** Runs to where the innermost call returns to. */
@@ -571,8 +637,9 @@ class Session {
     this.onChange();
   }
 
-  select(index) {
-    this.selected = Math.max(0, Math.min(index, this.lines - 1));
+  /** Selects a row of the listing. */
+  select(row) {
+    this.selected = this.partOf(Math.max(0, Math.min(row, this.lines - 1)));
     this.onChange();
   }
 
@@ -619,7 +686,7 @@ class Session {
     for (let at = index; at >= 0; at--) {
       const [name] = this.labels.get(at) ?? [];
       if (name === undefined) continue;
-      const bytes = address - this.machine.kit.base - 4 * at;
+      const bytes = address - this.machine.kit.base - this.machine.kit.unit * at;
       return shortened(name, LABEL_SHOWN) + (bytes ? ` + ${bytes}` : "");
     }
     return hex(address);

@@ -57,6 +57,7 @@ const NO_ALARM = { alarmLow: BEYOND_WORD - 1, alarmHigh: BEYOND_WORD - 1 };
 /** The CSRs of a machine and the words of its devices. */
 class Traps {
   constructor(kit) {
+    this.kit = kit;
     this.csrs = kit.u32.subarray(kit.csrs / 4, (kit.csrs + LAYOUT.csrs.size) / 4);
     this.reset();
   }
@@ -64,7 +65,8 @@ class Traps {
   /** As at reset: no handler, no alarm, nothing pending. */
   reset() {
     this.csrs.fill(0);
-    this.csrs[CSR.profile] = PROFILE.ATOMICS;
+    this.csrs[CSR.profile] = PROFILE.ATOMICS | PROFILE.BITS
+      | (this.kit.unit === 2 ? PROFILE.COMPRESSED : 0);
     Object.assign(this, { time: 0, software: 0, ...NO_ALARM });
   }
 
@@ -155,9 +157,9 @@ class Traps {
 function stepWithTraps(machine) {
   const { kit, history, traps } = machine;
   if (traps.isInterrupted) return makeTrap(machine, null);
-  const word = machine.wordAtPc();
-  const kind = kit.stepNoted(history.next);
-  if (kind === FAULT.NONE && kit.pc % 4 === 0) {
+  const word = machine.bitsAtPc();
+  const kind = machine.stepNoted();
+  if (kind === FAULT.NONE && kit.pc % kit.unit === 0) {
     if (machine.code !== null && machine.hasStoredToCode()) return machine.refuseStore();
     machine.keep(word);
     traps.count(1);
@@ -205,9 +207,10 @@ function changesOfAtomic(machine) {
   const { kit, code } = machine;
   const word = machine.wordAtPc();
   if (word === undefined || !isAtomic(word)) return [];
-  const index = machine.indexOf(kit.x[word >>> 15 & 31]);
+  const address = kit.x[word >>> 15 & 31];
+  const index = machine.indexOf(address);
   if (index >= 0 && code !== null && code[index] === 1 && word >>> 27 !== 2) return null;
-  return index < 0 ? [] : [kit.noteWord(index)];
+  return index < 0 ? [] : [kit.noteWord(address)];
 }
 
 /* The end of a program by an instruction of extension A that stores to one of its instructions. */
@@ -228,7 +231,7 @@ function makeTrap(machine, fault) {
   if (changes === null) return refuseAtomic(machine);
   const place = history.next;
   const x = kit.x.slice();
-  const word = machine.wordAtPc() ?? 0;
+  const word = machine.bitsAtPc() ?? 0;
   kit.u32.set(kit.noteRegister(0), place);
   const kind = kit.stepMachine(traps.pending, traps.time);
   const isTrap = kind === OUTCOME.RAISED || kind === OUTCOME.INTERRUPTED;
@@ -265,6 +268,9 @@ const ATOMICS = {
 /** Whether a word is an instruction of extension A. */
 const isAtomic = (word) => (word & 0x707f) === 0x202f && ATOMICS[word >>> 27] !== undefined;
 
+/** Whether a word is fence.i. */
+const isFenceI = (word) => (word & 0x707f) === 0x100f;
+
 /* The text of an instruction of extension A. */
 function textOfAtomic(word) {
   const order = ["", ".rl", ".aq", ".aqrl"][word >>> 25 & 3];
@@ -286,4 +292,4 @@ function textOfMachineMode(word) {
 }
 
 /** Whether a word is an instruction that machine mode has, and programs elsewhere have not. */
-const isOfMachineMode = (word) => textOfMachineMode(word) !== "";
+const isOfMachineMode = (word, kit) => textOfMachineMode(word) !== "" || kit.isOfBits(word);

@@ -91,7 +91,7 @@ class ListingView {
     const index = Number(line.dataset.index);
     this.session.selected = index;
     if (event.target.className === "gutter") this.session.toggleBreakpoint(index);
-    else this.session.select(index);
+    else this.session.select(this.session.rowOf(index));
   }
 
   /** Shows the lines where the box is scrolled to. */
@@ -100,10 +100,10 @@ class ListingView {
     this.renderLines();
   }
 
-  /** Scrolls as little as needed to have a line in view. */
+  /** Scrolls as little as needed to have the line of a word or a half-word in view. */
   reveal(index) {
     const { box, room: { height } } = this;
-    const top = index * LINE_HEIGHT;
+    const top = this.session.rowOf(index) * LINE_HEIGHT;
     const margin = 2 * LINE_HEIGHT;
     const least = top + LINE_HEIGHT + margin - height;
     const last = this.session.lines * LINE_HEIGHT - height;
@@ -127,11 +127,12 @@ class ListingView {
   }
 
   renderCoverage() {
-    const { machine } = this.session;
-    const { length } = machine.program;
+    const { session, session: { machine } } = this;
+    const length = session.rowOf(machine.program.length);
     let executed = 0;
-    for (let index = 0; index < length; index++) if (machine.executed[index]) executed++;
-    setText($("coverage"), `${executed} of ${counted(length, "word")} executed`);
+    for (let row = 0; row < length; row++) if (machine.executed[session.partOf(row)]) executed++;
+    const what = session.rows === null ? "word" : "line";
+    setText($("coverage"), `${executed} of ${counted(length, what)} executed`);
   }
 
   renderLines() {
@@ -140,10 +141,11 @@ class ListingView {
     const inView = Math.ceil(room.height / LINE_HEIGHT) + 2 * LINES_AROUND;
     const count = Math.max(0, Math.min(session.lines - first, inView));
     // no word behind the lines was executed
-    this.most = mostOf(session.machine.executed.subarray(0, session.lines));
+    this.most = mostOf(session.machine.executed.subarray(0, session.partOf(session.lines)));
     const lines = resize(this.sheet, count, () => this.makeLine());
     for (let i = 0; i < count; i++) this.fillLine(lines[i], first + i);
-    const isThere = session.selected >= first && session.selected < first + count;
+    const selected = session.rowOf(session.selected);
+    const isThere = selected >= first && selected < first + count;
     if (isThere) box.setAttribute("aria-activedescendant", `line-${session.selected}`);
     else box.removeAttribute("aria-activedescendant");
   }
@@ -161,12 +163,12 @@ class ListingView {
     return line;
   }
 
-  fillLine(line, index) {
+  fillLine(line, row) {
     const { session } = this;
     const { machine } = session;
     const { kit } = machine;
-    const address = kit.base + 4 * index;
-    const word = kit.words[index];
+    const index = session.partOf(row);
+    const address = kit.base + kit.unit * index;
     const text = session.textAt(index);
     const labels = labelsShown(session.labels.get(index) ?? []);
     const source = session.sources.get(index);
@@ -178,14 +180,14 @@ class ListingView {
     const [, addressCell, wordCell, textCell, executed] = line.children;
     line.id = `line-${index}`;
     line.dataset.index = index;
-    line.style.top = `${index * LINE_HEIGHT}px`;
+    line.style.top = `${row * LINE_HEIGHT}px`;
     line.className = `line listing-row${isPc ? " pc" : ""}${isStop ? " stop" : ""}`
       + `${isSelected ? " selected" : ""}${text ? "" : " none"}`;
     line.setAttribute("aria-selected", isSelected);
     const digits = hexOf(address);
     setText(addressCell.firstChild, digits.slice(0, 4));
     setText(addressCell.lastChild, digits.slice(4));
-    setText(wordCell, hexOf(word));
+    setText(wordCell, session.digitsAt(index));
     setText(textCell.children[0], labels && `${labels}:`);
     setText(textCell.children[1], text || "no instruction");
     setText(textCell.children[2], comment);
@@ -870,7 +872,7 @@ class BitmapView {
     if ($("panel-bitmap").hidden) return;
     const { machine: { kit }, machine } = this.session;
     const [width, height] = BITMAP_SIZES[$("bitmap-size").value];
-    const from = machine.indexOf(RARS_PLACES[$("bitmap-at").value]);
+    const from = (RARS_PLACES[$("bitmap-at").value] - kit.base) / 4;
     const isThere = from >= 0 && from + width * height <= kit.words.length;
     setText($("bitmap-note"), isThere ? "" : "The memory has no such words: choose the one of RARS, "
       + "under More.");

@@ -27,12 +27,13 @@ function inDecimal(text) {
     `${before}${parseInt(digits, 16) << 20 >> 20}(`);
 }
 
-/** A word of data, as a directive has it: a number, or its letters. */
-function textOfData(word) {
-  const bytes = [0, 8, 16, 24].map((at) => word >>> at & 0xff);
+/** A word or a half-word of data, as a directive has it: a number, or its letters. */
+function textOfData(word, size = 4) {
+  const bytes = [0, 8, 16, 24].slice(0, size).map((at) => word >>> at & 0xff);
   const letters = String.fromCharCode(...bytes).replace(/\0+$/, "");
   const areLetters = letters.length > 1 && /^[\t\n\x20-\x7e]+$/.test(letters);
-  return areLetters ? `.ascii ${JSON.stringify(letters)}` : `.word ${word | 0}`;
+  if (areLetters) return `.ascii ${JSON.stringify(letters)}`;
+  return size === 4 ? `.word ${word | 0}` : `.half ${word}`;
 }
 
 /** The number of a register by any of its names, or undefined. */
@@ -80,8 +81,8 @@ const isJumpToTarget = (word) => [0x63, 0x6f].includes(word & 0x7f);
 /* How many characters of a label are shown. */
 const LABEL_SHOWN = 60;
 
-/* How many bytes the load or the store of a word has. */
-const bytesOf = (word) => 1 << (word >>> 12 & 3);
+/* How many bytes the load or the store of an instruction has: one of 2 bytes is of a word. */
+const bytesOf = (bits) => ((bits & 3) === 3 ? 1 << (bits >>> 12 & 3) : 4);
 
 /* The memory, as a sentence names it. */
 const whereMemoryIs = (machine) => {
@@ -100,7 +101,8 @@ function isByStack(machine) {
 function ranPastEnd(machine) {
   const { kit, code, program, executed } = machine;
   const index = machine.indexOf(kit.pc);
-  if (index < 1 || executed[index - 1] === 0) return false;
+  const starts = kit.unit === 4 ? [index - 1] : [index - 1, index - 2];
+  if (!starts.some((start) => executed[start] > 0)) return false;
   return code === null ? index >= program.length : code[index] === 0 && code[index - 1] === 1;
 }
 
@@ -130,8 +132,10 @@ function exitCall({ environment }, names) {
 /* The sentence of each fault. `pc` is where the machine stands. */
 const FAULT_SENTENCES = {
   [FAULT.ILLEGAL]({ address, word }, machine, names) {
-    const what = `The word at ${hex(address)} is ${hex(word)}, which is no instruction of RV32IM.`;
-    if (isOfMachineMode(word) && !machine.environment.hasTraps) {
+    const what = machine.kit.sizeOf(word) === 2
+      ? `The half-word at ${hex(address)} is 0x${hexOf(word, 4)}, which is no compressed instruction.`
+      : `The word at ${hex(address)} is ${hex(word)}, which is no instruction of RV32IM.`;
+    if (isOfMachineMode(word, machine.kit) && !machine.environment.hasTraps) {
       const text = machine.kit.disassemble(word, 0) || textOfMachineMode(word);
       return `The word at ${hex(address)} is ${hex(word)}, ${withNames(text, names)}: machine mode `
         + "has this instruction. Choose machine mode here.";
@@ -143,7 +147,7 @@ const FAULT_SENTENCES = {
     return word === 0 ? `${what} Memory is 0 behind a program's end.` : what;
   },
   [FAULT.FETCH]({ address }, machine, names) {
-    if (machine.executed[machine.indexOf(address - 4)] > 0) {
+    if ([2, 4].some((size) => machine.executed[machine.indexOf(address - size)] > 0)) {
       return `The program has no exit: it ran past its last instruction to ${hex(address)}, where `
         + `there is no memory. A program ends by ${exitCall(machine, names)}.`;
     }
@@ -168,9 +172,10 @@ const FAULT_SENTENCES = {
   },
   [FAULT.MISALIGNED]({ address }, machine) {
     const { pc } = machine.kit;
-    if (pc % 4 !== 0) {
-      return `The program went to ${hex(address)}, which is no multiple of 4: no instruction starts`
-        + " there.";
+    const { unit } = machine.kit;
+    if (pc % unit !== 0) {
+      return `The program went to ${hex(address)}, which is no multiple of ${unit}: no instruction `
+        + "starts there.";
     }
     const word = machine.wordAtPc();
     const does = groupOf(word) === "load" ? "loads" : "stores";
@@ -215,7 +220,7 @@ const FAULT_NAMES = {
  * serve, or null. */
 function callsMeant(end, { kit, environment }) {
   if (end.reason !== "fault" || environment.hasTraps) return null;
-  if (end.kind === FAULT.ILLEGAL && isOfMachineMode(end.word)) return "machine";
+  if (end.kind === FAULT.ILLEGAL && isOfMachineMode(end.word, kit)) return "machine";
   if (end.kind !== FAULT.ECALL) return null;
   const isMeant = (other) => other !== environment && other.calls[kit.x[other.number]] !== undefined
     && (other.number === REGISTER.A7 || kit.x[REGISTER.A7] === 0);
@@ -291,7 +296,8 @@ function effectOf(record, names) {
     const { cause, changed } = record.extra;
     return [cause, written, changed].filter((part) => part).join(", ");
   }
-  if (record.writeMask) return `[${hex(record.address)}] ← ${value}`;
+  const stored = `[${hex(record.address)}] ← ${value}`;
+  if (record.writeMask) return written ? `${written}, ${stored}` : stored;
   if (record.readMask) return `${written || value} ← [${hex(record.address)}]`;
   return written;
 }

@@ -82,7 +82,7 @@ def board(machine):
               f"({steps + 1}).toLocaleString('en') + ' steps, ')")
     page.replace("#board-stops", "80000020, x")
     page.press("Tab")
-    same("what is no address", "Addresses are wanted, which are multiples of 4, as 0x80000010.",
+    same("what is no address", "Addresses are wanted, which are multiples of 2, as 0x80000010.",
          page.ask("$('board-stops').title"))
     page.replace("#board-stops", "0x80000020")
     page.press("Tab")

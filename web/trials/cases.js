@@ -24,6 +24,8 @@ const { tryGuards } = require("./cases/guards.js");
 const { tryGrading } = require("./cases/grading.js");
 const { tryRars } = require("./cases/rars.js");
 const { tryExecutables } = require("./cases/executables.js");
+const { tryCompressed } = require("./cases/compressed.js");
+const { tryBits } = require("./cases/bits.js");
 const { tryBoards } = require("./cases/boards.js");
 
 async function main([folder, module]) {
@@ -47,6 +49,8 @@ async function main([folder, module]) {
   await tryGrading(report, page, kit);
   tryRars(report, page, kit);
   await tryExecutables(report, page, kit);
+  await tryCompressed(report, page, kit, clock);
+  await tryBits(report, page, kit, clock);
   await tryBoards(report, page, kit, clock);
   for (const [subject, count] of report.counts) console.log(`${subject} ${count}`);
   return report.failed === 0 ? 0 : 1;

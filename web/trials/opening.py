@@ -9,7 +9,7 @@ import time
 import zlib
 
 from trials.report import Differs, same
-from trials.view import Subject, js
+from trials.view import WEB, Subject, js
 
 TOO_LONG = "A text of words has 8,388,608 bytes at most, and this one has more."
 UNREADABLE = "can't be read: it is a folder, or it was changed after it was chosen."
@@ -139,6 +139,35 @@ def is_executable(machine):
     same("the labels", ["_start:", "answer:"],
          [machine.page.text(f"#line-{index} .label") for index in (21, 24)])
     same("the call", ["00010054", "00c000ef", "jal ra, answer", ""], machine.line(21))
+
+
+def compressed_executables(machine):
+    """files: an executable with compressed code, its listing, a breakpoint at 2 modulo 4, and a run back"""
+    digits = (WEB / "trials" / "cases" / "twice.hex").read_text(encoding="ascii")
+    machine.choose("gcd")
+    drop(machine, "twice", bytes.fromhex(digits))
+    machine.says("Ready")
+    same("where it starts", "0x000100a2", machine.register("pc"))
+    same("its first lines, by the numbers of their half-words", [
+        ["000100a2", "1141", "c.addi sp, -16", ""], ["000100a4", "c606", "c.swsp ra, 12(sp)", ""],
+        ["000100a6", "3fc9", "c.jal 0x00010078", ""], ["000100a8", "67c5", "c.lui a5, 0x00011000", ""],
+        ["000100aa", "0ec78713", "addi a4, a5, 236", ""],
+    ], [machine.line(index) for index in (0x51, 0x52, 0x53, 0x54, 0x55)])
+    same("a second half has no line", 0, machine.page.ask(
+        "document.querySelectorAll('#line-86').length"))
+    tops = [machine.page.ask(f"document.getElementById('line-{index}').offsetTop")
+            for index in (0x55, 0x57)]
+    same("the next line is the next below", 24, tops[1] - tops[0])
+    machine.page.click("#line-83 .gutter")
+    machine.leave_fields()
+    machine.run()
+    machine.says("Breakpoint", "Stopped before a breakpoint at 0x000100a6, after 2 steps more.")
+    machine.run()
+    machine.says("Exit", "The program ended by the ecall at 0x000100de, with status 17.")
+    same("what it prints", "twice\n", machine.page.text("#output"))
+    machine.run("B")
+    same("the pc and what is printed, a run back", ["0x000100a6", ""],
+         [machine.register("pc"), machine.page.text("#output")])
 
 
 def files_that_cannot_be_read(machine):
@@ -358,5 +387,6 @@ def refused_links(machine):
         machine.says("Not opened", sentence)
 
 
-TRIALS = [editor, editor_by_keys, files, executables, files_that_cannot_be_read, long_texts]
+TRIALS = [editor, editor_by_keys, files, executables, compressed_executables,
+          files_that_cannot_be_read, long_texts]
 LINKS = [links, refused_links]

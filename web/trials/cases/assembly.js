@@ -87,7 +87,7 @@ const MISTAKES = [
   ["¦.section foo", "a section needs a name, and flags where its name says nothing"],
   [".bss\n¦.word 1",
     "this section holds zeros only; .space is written here, and .data before numbers"],
-  [".option ¦rvc", "not implemented: rvc"],
+  [".option ¦pic", "not implemented: pic"],
   ["addi a0, a0, %¦hi(4)", "12 bits are wanted here, as %lo"],
   ["lui a0, %¦lo(4)", "the upper 20 bits are wanted here, as %hi"],
   ["addi a0, a0, %¦pcrel_lo(x)\nx: nop", "no statement with %pcrel_hi is at this label"],
@@ -198,7 +198,7 @@ function known(report, page, kit) {
   ], (text) => page.isAssembly(text, kit));
   report.same("names that are coloured and that the kit does not have", [],
     [...page.namesOf(kit)].filter((name) => made(page, kit, name).toString().includes("no such")));
-  report.same("how many are coloured", 68 + page.PSEUDO.length, page.namesOf(kit).size);
+  report.same("how many are coloured", 97 + page.PSEUDO.length, page.namesOf(kit).size);
   const coloured = (text) => page.colouredIn(text, kit)
     .map(({ start, end, kind }) => `${text.slice(start, end)} ${kind}`);
   report.cases("the colours of a source", [

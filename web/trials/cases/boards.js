@@ -67,7 +67,7 @@ async function echoes(report, page, kit, clock, board) {
   clock.tasks.length = 0;
   report.same("an image", "", open(page, kit, board, ECHO));
   const { kit: { x, pc, csrs } } = board;
-  report.same("at reset", [0x80000000, 0, 0x81ff0000, 3, 0, 0],
+  report.same("at reset", [0x80000000, 0, 0x81ff0000, 231, 0, 0],
     [pc, x[10], x[11], csrs[page.CSR.profile], csrs[page.CSR.user], board.kit.time]);
   report.same("the tree in RAM", [0xd0, 0x0d, 0xfe, 0xed],
     [...board.kit.bytes.subarray(page.RAM_BYTES - page.TREE_ROOM).subarray(0, 4)]);
@@ -124,18 +124,14 @@ async function sleeps(report, page, kit, clock, board) {
 /* What a board says that comes to no handler, or traps in it, by its image. */
 async function traps(report, page, kit, clock, board) {
   const nowhere = "A trap went to where mtvec points, 0x00000000, and no memory is there: ";
-  const compressed = " It is a compressed one, of extension C, which this hart has not: build the image "
-    + "for rv32ima.";
   const images = [
-    // c.li a0, 0; c.addi a0, 1
-    [Uint8Array.of(0x01, 0x45, 0x05, 0x05), `${nowhere}illegal instruction at 0x80000000.${compressed}`],
+    // c.li a0, 0; c.addi a0, 1; no instruction
+    [Uint8Array.of(0x01, 0x45, 0x05, 0x05, 0, 0), `${nowhere}illegal instruction at 0x80000004.`],
     [new Uint8Array(8), `${nowhere}illegal instruction at 0x80000000.`],
     ["nop; ecall", `${nowhere}ecall at 0x80000004.`],
     ["li t0, 0x40000000; lw t1, 0(t0)", `${nowhere}load fault at 0x80000004.`],
     ["la t0, 1f; csrw mtvec, t0; ecall; .align 2; 1: .word 0",
       "It traps for ever, in its own handler: illegal instruction at 0x80000010."],
-    ["la t0, 1f; csrw mtvec, t0; ecall; .align 2; 1: .word 0x45014501",
-      `It traps for ever, in its own handler: illegal instruction at 0x80000010.${compressed}`],
   ];
   for (const [image, told] of images) {
     clock.tasks.length = 0;
@@ -206,6 +202,56 @@ function loads(report, page, kit, board) {
     [...[0, 0x1000, 0x2000].map(there), board.kit.pc]);
 }
 
+/* What gcc with -march=rv32imac makes of `c.nop; _start: c.li a0, 5; c.j on; c.ebreak; on: c.addi a0,
+ * 1; c.ebreak`, linked to 0x80000000, but for the sections. */
+const SHORT_AT = 84;
+const SHORT = Buffer.from(
+  "7f454c460101010000000000000000000200f30001000000020000803400000000000000010000003400200001002800"
+  + "00000000010000005400000000000080000000800c0000000c00000007000000020000000100154511a0029005050290",
+  "hex");
+
+/* How many bytes the device tree in RAM has, by its header. */
+const treeBytes = (page, { kit: { data, ram } }) =>
+  data.getUint32(ram + page.RAM_BYTES - page.TREE_ROOM + 4);
+
+function compressed(report, page, kit, board) {
+  const profile = () => board.kit.csrs[page.CSR.profile];
+  report.same("an executable with compressed code, and its hart", ["", 231, 0x80000002],
+    [board.open("short", SHORT), profile(), board.kit.pc]);
+  const told = [];
+  for (let step = 0; step < 3; step++) {
+    const { pc } = board.kit;
+    told.push(board.kit.textAt(pc - page.RAM_START, pc));
+    board.step();
+  }
+  report.same("its instructions, pc and a0",
+    [["c.li x10, 5", "c.j 0x80000008", "c.addi x10, 1"], 0x8000000a, 6],
+    [told, board.kit.pc, board.kit.x[10]]);
+  board.step();
+  board.step();
+  report.same("its end", "A trap went to where mtvec points, 0x00000000, and no memory is there: "
+    + "breakpoint at 0x8000000a.", board.ending);
+  board.reset();
+  report.same("its hart, booted again", [231, 0x80000002], [profile(), board.kit.pc]);
+  report.same("its code as raw bytes, and the hart", ["", 231, 0x80000000],
+    [board.open("raw", SHORT.subarray(SHORT_AT)), profile(), board.kit.pc]);
+  report.same("its device tree", page.deviceTree(page.RAM_BYTES, true).length, treeBytes(page, board));
+  for (let step = 0; step < 4; step++) board.step();
+  report.same("where it is, and a0", [0x8000000a, 6], [board.kit.pc, board.kit.x[10]]);
+  board.open("short", SHORT);
+  const outside = Uint8Array.from(SHORT);
+  outside[67] = 0x70;
+  const wrong = Uint8Array.from(executableOf(page, SHORT));
+  wrong[18] = 0;
+  report.same("its hart behind files that are refused", [true, true, 231],
+    [board.open("outside", outside) !== "", board.open("wrong", wrong) !== "", profile()]);
+  const { bytes } = kit.assemble("addi a0, a0, 1; lr.w a1, (a0)", page.RAM_START);
+  report.same("without compressed code", ["", 227, page.deviceTree(page.RAM_BYTES, false).length],
+    [board.open("elf", executableOf(page, bytes)), profile(), treeBytes(page, board)]);
+  const texts = [0, 4, 2, -4, page.RAM_BYTES].map((at) => board.kit.textAt(at, page.RAM_START + at));
+  report.same("its instructions", ["addi x10, x10, 1", "lr.w x11, (x10)", "", "", ""], texts);
+}
+
 function refuses(report, page, board) {
   const long = new Uint8Array(page.RAM_BYTES - page.TREE_ROOM + 1);
   report.same("an image that is too long",
@@ -223,14 +269,20 @@ function refuses(report, page, board) {
   report.same("one in RAM", true, page.isBoardImage(elf));
 }
 
-/* The bytes that `rrs board` hands over, as gdb reads them (examples/linux/check). */
-const TREE = { bytes: 1477, sha256: "627a552b5ebd0acc31a3d2d29bfb8d4432361f395dabacde23e0ac361d237904" };
+/* The bytes that `rrs board` hands over, as gdb reads them (examples/linux/check), with extension C
+ * and without. */
+const TREES = [
+  [true, 1481, "7c87b9d857ef96105855ee42979895cf05bdfeaa6cc8dddf74196accf166fa90"],
+  [false, 1477, "627a552b5ebd0acc31a3d2d29bfb8d4432361f395dabacde23e0ac361d237904"],
+];
 
 function trees(report, page) {
-  const tree = page.deviceTree(page.RAM_BYTES);
-  report.same("the device tree", TREE, {
-    bytes: tree.length, sha256: createHash("sha256").update(tree).digest("hex"),
-  });
+  for (const [hasCompressed, bytes, sha256] of TREES) {
+    const tree = page.deviceTree(page.RAM_BYTES, hasCompressed);
+    report.same("the device tree", { bytes, sha256 }, {
+      bytes: tree.length, sha256: createHash("sha256").update(tree).digest("hex"),
+    });
+  }
 }
 
 function screens(report, page) {
@@ -272,6 +324,7 @@ async function tryBoards(report, page, kit, clock) {
   await breakpoints(report, page, kit, clock, board);
   refuses(report, page, board);
   loads(report, page, kit, board);
+  compressed(report, page, kit, board);
   trees(report, page);
   screens(report, page);
   keys(report, page);

@@ -30,7 +30,7 @@ function digest(machine) {
     [...kit.x], kit.pc, kit.last, nonzero(kit.words), nonzero(executed), nonzero(kinds),
     [...output.subarray(0, printed)], lost, input, held, taken, isClosed, port, heap,
     machine.break, String(random), history.steps, history.first, [...history.extras.keys()],
-    [...traps.csrs], traps.time, traps.alarmLow, traps.alarmHigh, traps.software,
+    [...traps.csrs], traps.time, traps.alarmLow, traps.alarmHigh, traps.software, [...kit.reserved],
   ]);
 }
 
