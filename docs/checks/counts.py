@@ -2,6 +2,7 @@
 
 import re
 
+from layers import LISTS
 from pages import SPAN
 
 MARKER = re.compile(r"([\w,]*\w)?[`*]*\s*<!--\s*count\s+([\w:/-]*)\s*-->")
@@ -42,7 +43,7 @@ class Sources:
 
 TABLE = "crates/rrs_instruction/specs/Table.antt"
 HEADER = "crates/rrs_c/include/rrs.h"
-TEXTS = "crates/rrs_lib/src/disassembly.rt"
+BITS = "crates/rrs_words/specs/BitInstructions.antt"
 TESTS = r"crates/(?:tests_\w+/.*|\w+/src/tests)\.rt"
 
 
@@ -51,40 +52,46 @@ def row_names(sources):
     return re.findall(r"^table Row\.(\w+) =[^\"]*\"(\w+)\"", sources.text(TABLE), re.M)
 
 
+def bit_rows(sources):
+    """The constructors of the rows of Zba, Zbb and Zbs, with their names."""
+    return re.findall(r"^bit_table (\w+) =[^\"]*\"([\w.]+)\"", sources.text(BITS), re.M)
+
+
 def files_of_rows(sources):
-    """The sources in which each row stands, by its constructor, its name or its function."""
-    found = sources.named(r"crates/\w+/(src|specs|proofs)/.*")
-    for one, name in row_names(sources):
-        words = [one, name, f"process_{'sltui' if name == 'sltiu' else name}"]
-        form = re.compile(rf"\b({'|'.join(words)})\b")
+    """The sources in which each of these rows stands by hand, by its constructor or its name."""
+    made = {file for file, *_ in LISTS}
+    found = [file for file in sources.named(r"crates/\w+/(src|specs|proofs)/.*") if file not in made]
+    for one, name in bit_rows(sources):
+        form = re.compile(rf"\b({one}|{re.escape(name)})\b")
         found = [file for file in found if form.search(sources.text(file))]
     return found
 
 
-LISTED = re.compile(r"^\| `([\w/.]*/[^`]*)` \| (\d+)(, and the import[^|]*)? \|", re.M)
-RESULTS = ("specs/Results.antt", "src/arithmetic.rt")
+LISTED = re.compile(r"^\| `([\w/.]*/[^`]*)` \| (\d+) \|", re.M)
 
 
-def listed_rows(sources, with_result=True):
+def listed_rows(sources):
     """The lines of the table of docs/ADDING.md: each file that an added row is written into, with
-    its places. Those of a new result are its formula, its function, and their import."""
-    for file, count, imported in LISTED.findall(sources.text("docs/ADDING.md")):
-        if with_result or not file.endswith(RESULTS):
-            yield file, int(count) + bool(imported and with_result)
+    its places."""
+    return [(file, int(count)) for file, count in LISTED.findall(sources.text("docs/ADDING.md"))]
 
 
-def row_files(sources, with_result):
-    return len(list(listed_rows(sources, with_result)))
-
-
-def row_places(sources, with_result):
-    return sum(places for _, places in listed_rows(sources, with_result))
+def layer_sources(sources):
+    """How many of these are no tests and no pages."""
+    return sum(bool(re.match(r"crates/rrs_", file)) for file, _ in listed_rows(sources))
 
 
 def unlisted_files(sources):
     """The sources with each row that the table of docs/ADDING.md does not list."""
     listed = [file for file, _ in listed_rows(sources)]
     return [file for file in files_of_rows(sources) if file not in listed]
+
+
+def layer_profiles(sources):
+    """The files in which the profile of a hart names Zba."""
+    files = sources.named(r"crates/rrs_\w+/(src|specs|include)/.*|bindings/(layouts|\w+/rrs\w*\.\w+)")
+    form = re.compile(r"\bzba\b|_ZBA\b|\bZBA =|^    Zba,|TheVariants\.\{Zba\b", re.M)
+    return sum(bool(form.search(sources.text(file))) for file in files)
 
 
 def constant(sources, name):
@@ -123,6 +130,12 @@ def crates_of(sources, wanted):
 def cache_bytes(sources):
     """What a cache of decoded words takes: a key of 4 bytes and an entry of 16 at each place."""
     return 20 * constant(sources, "ENTRIES")
+
+
+def c_functions(sources):
+    """The functions that C finds."""
+    return sum(sources.text(file).count("unsafe(no_mangle)")
+               for file in sources.named(r"crates/rrs_c/src/\w+\.rt"))
 
 
 def answers(sources):
@@ -200,11 +213,10 @@ KIT = "rrs_lib|rrs_memory|rrs_instruction"
 # after the colon as its second argument.
 COUNTS = {
     "rows": (lambda s: len(row_names(s)), 1),
-    "row-files": (lambda s: row_files(s, False), 1),
-    "row-files-with-result": (lambda s: row_files(s, True), 1),
-    "row-places": (lambda s: row_places(s, False), 1),
-    "row-places-with-result": (lambda s: row_places(s, True), 1),
-    "name-clauses": (lambda s: s.matches(TEXTS, r"length (name\.now|result\.bytes) ≤ 6\b"), 1),
+    "layer-files": (lambda s: len(listed_rows(s)), 1),
+    "layer-places": (lambda s: sum(places for _, places in listed_rows(s)), 1),
+    "layer-sources": (layer_sources, 1),
+    "layer-profiles": (layer_profiles, 1),
     "action-kinds": (lambda s: constructors(s, "Action"), 1),
     "exports": (lambda s: s.matches(HEADER, r"^[a-z]\w*[\w ]*[ *]rrs_\w+\("), 1),
     "header-lines": (lambda s: s.lines(re.escape(HEADER)), 1),
@@ -236,7 +248,7 @@ COUNTS = {
     "proof-lines:": (proof_lines, 100),
     "rust-lines:": (rust_lines, 10),
     "cache-bytes": (cache_bytes, 1),
-    "c-functions": (lambda s: s.text("crates/rrs_c/src/lib.rt").count("unsafe(no_mangle)"), 1),
+    "c-functions": (c_functions, 1),
     "cache-kib": (lambda s: cache_bytes(s) // 1024, 1),
     "const:": (constant, 1),
     "variants:": (variants, 1),

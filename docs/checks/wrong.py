@@ -10,19 +10,28 @@ from pathlib import Path
 
 from surface import BELOW
 
-TABLE = "crates/rrs_instruction/specs/Table.antt"
+TABLE = "crates/rrs_words/specs/BitInstructions.antt"
+NUMBERS = "crates/rrs_words/specs/Layers.antt"
 RIGHT = {
     "crates.txt": "one:\n",
     "crates/one/src/lib.rt": "//! A crate.\n\n/// One.\npub fn one_name() -> u32 {\n    1\n}\n"
                              "\n/// Two.\npub fn other_name() -> u32\n    ensures value "
                              "{ result ≡ 2 }\n    ensures { result < 3 }\n{\n    2\n}\n",
-    TABLE: "table Row.Add = row \"add\"\n",
+    TABLE: "bit_table Clz = bit_entry (codes \"clz\") Zbb 0x13 0x30 1 (Fixed 0)\n",
     "crates/one/specs/One.antt": "-- A number.\nuse One.{ℕ}\nabbrev pub f : ℕ → ℕ\nf 0 = 1\nf n = n\n"
                                  "module _\n    (x : ℕ) where\n  abbrev pub g : ℕ\n  g =\n      x\n",
     "crates/one/must-fail/tried-alone.md": "part: another\nfile: src/lib.rt\nold:     1\nnew:     2\n",
-    "docs/ADDING.md": f"# Adding\n\n| `{TABLE}` | 1 |\n",
+    "docs/ADDING.md": f"# Adding\n\n| `{TABLE}` | 1 |\n| `{NUMBERS}` | 1 |\n",
     "docs/PROVED.md": "# Proved\n\n| Promise | Carried by | How |\n|---|---|---|\n"
                       "| Two is 2 | [`other_name`](../crates/one/src/lib.rt) | `value`, `ensures` |\n",
+    # the definitions of a layer, a list of it, and a file that names its instructions
+    NUMBERS: "system_number Mret = 49\nsystem_number FenceI = 50\nbit_number Clz = 51\n",
+    "crates/rrs_words/specs/SystemInstructions.antt":
+        "system_table Mret = system_entry (codes \"mret\") 0x73\n"
+        "system_table FenceI = system_entry (codes \"fence.i\") 0x0f\n",
+    "bindings/layouts": "RRS_ROW_EBREAK 48\nRRS_NO_ACCESS 0\n",
+    "crates/rrs_c/specs/Names.antt": "  pub above : 7 < number → name ≡ None\n",
+    "docs/ASSEMBLY.md": "# Assembly\n\n<!-- example -->\n```text\n`mret`, `fence.i`, `clz`\n```\n",
     # two headings of one name
     "docs/OTHER.md": "# Other\n\n## A heading\n\n## A [heading](PROVED.md)!\n",
     "docs/SURFACE.md": f"# Surface\n\n{BELOW}\n",
@@ -66,7 +75,16 @@ WRONG = [
     ("README.md", "count crates", "count none", "there is no count `none`"),
     ("crates/one/must-fail/tried-alone.md", "old:     1", "old:     3", "this stands 0 times"),
     ("crates/one/must-fail/tried-alone.md", "old:     1", "old: u", "this stands 9 times"),
-    ("docs/ADDING.md", "specs/Table.antt", "src/lib.rt", "lists " + TABLE),
+    ("docs/ADDING.md", "specs/BitInstructions.antt", "src/lib.rt", "lists " + TABLE),
+    ("bindings/layouts", "RRS_ROW_MRET 49", "RRS_ROW_MRET 50", "layouts:2: the layers give `RRS_ROW_MRET 49`"),
+    ("bindings/layouts", "RRS_ROW_MRET 49\n", "", "layouts:2: the layers give `RRS_ROW_MRET 49`"),
+    ("bindings/layouts", "RRS_ROW_FENCE_I 50\n", "", "layouts:3: the layers give `RRS_ROW_FENCE_I 50`"),
+    ("bindings/layouts", "RRS_ROW_FENCE_I", "RRS_ROW_FENCE", "layouts:3: the layers give `RRS_ROW_FENCE_I 50`"),
+    ("bindings/layouts", "RRS_ROW_EBREAK", "EBREAK", "has no place: no line `RRS_ROW_EBREAK 48`"),
+    ("crates/rrs_c/specs/Names.antt", "51 <", "52 <", "the layers give `  pub above : 51 < number"),
+    ("crates/rrs_c/specs/Names.antt", "51 <", "51 ≤", "no line `  pub above : 51 < number"),
+    (NUMBERS, "= 51", "= 52", "the layers give `RRS_ROW_CLZ 52`"),
+    ("docs/ASSEMBLY.md", "`mret`", "`mre`", "ASSEMBLY.md:1: of the layers `mret` should be here"),
     ("docs/OTHER.md", "# Other", "# Other\n\n" + 301 * "x", "a line of 301 characters"),
     ("docs/PROVED.md", "`value`", "`values`", "`other_name` ensures no clause `values`"),
     ("docs/PROVED.md", "other_name", "another", "no function of crates/one/src/lib.rt has this"),

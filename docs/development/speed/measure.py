@@ -89,10 +89,10 @@ def changing():
     return [first, 0x0200_2303, 0x0000_2383, 0x0060_2023, 0x0270_2023, jal(-20), 0, 0, second]
 
 
-def executable(code, base=0, size=65536):
+def executable(code, base=0, size=65536, flags=0):
     """An executable of one segment, whose pages may be read, written and executed."""
     head = b"\x7fELF\1\1\1" + bytes(9) + struct.pack(
-        "<HHIIIIIHHHHHH", 2, 243, 1, base, 52, 0, 0, 52, 32, 1, 40, 0, 0)
+        "<HHIIIIIHHHHHH", 2, 243, 1, base, 52, 0, flags, 52, 32, 1, 40, 0, 0)
     segment = struct.pack("<IIIIIIII", 1, 4096, base, base, len(code), max(size, len(code)), 7, 4096)
     return (head + segment).ljust(4096, b"\0") + code
 
@@ -126,6 +126,26 @@ def mixed_loop():
         0x00c4_02a3,  # sb x12, 5(x8)
         jal(-44),
     ]
+
+
+def short_loop():
+    """A loop of compressed code, whose loads and stores are at sp, with two instructions of 32 bits."""
+    halves = [
+        0x4502,  # c.lwsp x10, 0(x2)
+        0x0505,  # c.addi x10, 1
+        0xc02a,  # c.swsp x10, 0(x2)
+        0x85aa,  # c.mv x11, x10
+        0x962e,  # c.add x12, x11
+        0x060e,  # c.slli x12, 3
+        0x8d2d,  # c.xor x10, x11
+        0x8693, 0x5556,  # addi x13, x13, 1365
+        0x893d,  # c.andi x10, 15
+        0xc111,  # c.beqz x10, 4
+        0x8d89,  # c.sub x11, x10
+        0xb733, 0x00c5,  # sltu x14, x11, x12
+        0xb7d5,  # c.j -28
+    ]
+    return struct.pack(f"<{len(halves)}H", *halves)
 
 
 def timed(loop):
@@ -266,6 +286,7 @@ def commands_of(room, rrs):
         with open(file, "rb") as code:
             elf[file] = made(room, name_of(file), executable(code.read()))
     board = made(room, "board", executable(words_of(timed(mixed_loop())), 0x8000_0000))
+    short = made(room, "short", executable(short_loop(), 0x1000, flags=1))
 
     def by_program(command, **more):
         columns = {name_of(file): Count(command(file), **more) for file in PROGRAMS}
@@ -282,6 +303,8 @@ def commands_of(room, rrs):
         "`rrs run --quiet`": by_program(lambda file: lambda n: [rrs, "run", "--quiet", file, str(n)]),
         "`rrs run`": by_program(lambda file: lambda n: [rrs, "run", file, str(n)]),
         "`rrs exec`": by_program(run("exec")),
+        "`rrs exec` of compressed code": {
+            "a mixed loop": Count(lambda n: [rrs, "exec", "--limit", str(n), short])},
         "`rrs gdb`: `continue` without a history": by_program(gdb, said=lambda n: packets(n, 0)),
         "`rrs gdb`: `continue` with one": by_program(gdb, said=packets),
         "`rrs board`": {"a mixed loop": Count(lambda n: [rrs, "board", "--limit", str(n), board])},
