@@ -7,7 +7,9 @@ pub mod Loaded
 pub mod RamSteps
 pub mod RamWords
 pub mod BoardLegs
+pub mod BoardHalves
 pub mod RamHalts
+pub mod RamHalves
 pub mod PaddedWords
 pub mod ImageEnds
 mod ReadsKeep

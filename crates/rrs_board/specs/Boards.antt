@@ -1,6 +1,6 @@
 -- A board, its steps and runs. A step of the hart is that of machine mode (rrs_machine) over the
 -- memory of the board. Then the devices answer to its access, and time goes on.
-use Rattle.std.specs.Prelude.{◌≡◌, ℕ, zero, suc, ◌+◌, ◌*◌, ◌^◌, ◌<◌, ◌≤◌, ◌&&◌, nat_le, nat_lt, Bool, false, List, length, replicate, slice_set, Option, Some, None}
+use Rattle.std.specs.Prelude.{◌≡◌, ℕ, zero, suc, ◌+◌, ◌*◌, ◌^◌, ◌<◌, ◌≤◌, ◌&&◌, nat_le, nat_lt, Bool, true, List, length, replicate, slice_set, Option, Some, None}
 use Rattle.rrs_lib.specs.Accesses.{MakesExactly}
 use Rattle.rrs_machine.specs.declared.machine.MachineAnswer.{MachineAnswer}
 use Rattle.rrs_machine.specs.Traps.{interrupt_due}
@@ -16,7 +16,8 @@ use Rattle.rrs_elf.specs.Loading.{Stands, loaded_size}
 use Rattle.rrs_memory.specs.SliceBytes.{bytes_from, lies_from}
 use Rattle.rrs_memory.specs.Loading.{Loaded}
 use Rattle.rrs_memory.specs.declared.memories.VecMemory.{VecMemory}
-use Rattle.rrs_words.specs.CsrNumbers.{machine_alone}
+use Rattle.rrs_words.specs.CsrNumbers.{no_layers, machine_alone}
+use Rattle.rrs_words.specs.declared.csrs.HartProfile.{HartProfile}
 use Rattle.rrs_machine.specs.Csrs.{reset_file}
 
 -- the machine that a board is, with this memory
@@ -66,14 +67,17 @@ BoardRun limit old steps (Some event) new =
 
 -- The devices are heard of in none of so many steps, where these access no register of theirs:
 -- none has an access to answer to, no interrupt is due, the alarm does not come meanwhile, and time
--- does not start again from 0. The hart fetches words.
+-- does not start again from 0.
 pub record IsQuiet (steps : ℕ) (b : Board) : Type 0 where
-  pub words : b.csrs.profile.hart.compressed ≡ false
   pub answered : b.memory.devices.access ≡ None
   pub none_due : interrupt_due b.csrs (inputs_of b.memory.devices) ≡ None
   pub no_alarm : b.memory.devices.time < b.memory.devices.alarm
       → b.memory.devices.time + steps ≤ b.memory.devices.alarm
   pub goes_on : b.memory.devices.time + steps < 2 ^ 64
+
+-- the 48 rows and their compressed forms, which a leg of a hart that fetches half-words makes
+abbrev pub short_rows : HartProfile
+short_rows = record no_layers { compressed = true }
 
 -- the board with no register as the one written last, which no step asks for
 abbrev pub forgetful : Board → Board

@@ -193,7 +193,10 @@ fn a_short_jump_to_itself_is_dead(rt: HostRuntime) -> Result<(), Fail> {
         return Ok(());
     };
     board.set_profile(SHORT);
+    let events = (board.step().event, board.step().event);
+    assert!(rt; events == (None, Some(BoardEvent::Spins)));
+    // a leg, and the step that tells
     let end = board.run(100);
-    assert!(rt; (end.steps, end.event) == (2, Some(BoardEvent::Spins)));
+    assert!(rt; (end.steps, end.event) == (100, Some(BoardEvent::Spins)));
     Ok(())
 }
