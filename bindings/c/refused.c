@@ -55,6 +55,16 @@ size_t rrs_disassemble(uint32_t word, uint32_t pc, char *text, size_t size) {
     return 0;
 }
 
+size_t rrs_disassemble_hart(uint32_t word, uint32_t pc, uint32_t profile, char *text, size_t size) {
+    (void)profile;
+    return rrs_disassemble(word, pc, text, size);
+}
+
+uint32_t rrs_expand(uint32_t half) {
+    (void)half;
+    return 0;
+}
+
 #ifndef OLD
 rrs_access rrs_request(const rrs_hart *hart, uint32_t word) {
     rrs_access access = {{RRS_OK, 0, 0}, KIND, 0, 0, 0};
