@@ -24,7 +24,7 @@ open import rrs-lib.Declared using
 open import rrs-lib.Machine
 open import rrs-lib.Steps
 open import machine-words.Declared using
-  ( HartProfile; atomics·; misaligned·; fence-i·; compressed·
+  ( HartProfile; atomics·; misaligned·; fence-i·; compressed·; zba·; zbb·; zbs·
   ; Mstatus; Mie; Mtvec; Mscratch; Mepc; Mcause; Mtval; Mip )
 open import machine-mode.Declared using
   ( CsrFile; Inputs; MachineAnswer; Retired; Waiting; Raised; Interrupted
@@ -195,11 +195,12 @@ traced (suc n) s with step s
 ... | stepped t (Err e) accesses _ _ =
   step-text s t (Err e) accesses ∷ (codes "end " ++ state-text 0 t) ∷ []
 
--- a hart's profile, as a sum: 1 for extension A, 2 for fence.i, 4 for misaligned accesses, and 8
--- for compressed code
+-- a hart's profile, as a sum: 1 for extension A, 2 for fence.i, 4 for misaligned accesses, 8 for
+-- compressed code, 32 for Zba, 64 for Zbb, and 128 for Zbs, as in rrs.h
 profile-of : ℕ → HartProfile
 profile-of n = record
-  { atomics· = has 1 ; fence-i· = has 2 ; misaligned· = has 4 ; compressed· = has 8 }
+  { atomics· = has 1 ; fence-i· = has 2 ; misaligned· = has 4 ; compressed· = has 8
+  ; zba· = has 32 ; zbb· = has 64 ; zbs· = has 128 }
   where
   has : ℕ → Bool
   has bit = n / bit % 2 == 1

@@ -394,12 +394,12 @@ rotate-left w n by =
 rotate-right w n by =
   if by % w == 0 then n else n / 2 ^ (by % w) + n * 2 ^ (w - by % w) % 2 ^ w
 
-bytes-of : ℕ → ℕ → List ℕ
-bytes-of zero n = []
-bytes-of (suc k) n = n % 256 ∷ bytes-of k (n / 256)
+lowest-bytes : ℕ → ℕ → List ℕ
+lowest-bytes zero n = []
+lowest-bytes (suc k) n = n % 256 ∷ lowest-bytes k (n / 256)
 
 to-le-bytes : Width → ℕ → List ℕ
-to-le-bytes w = bytes-of (w / 8)
+to-le-bytes w = lowest-bytes (w / 8)
 
 from-lowest : List ℕ → ℕ
 from-lowest [] = 0

@@ -1,6 +1,6 @@
-"""The definitions of a hart with extension A, fence.i, misaligned accesses and compressed code
-beside qemu-riscv32: random steps, each with its registers, pc and accesses, and the memory that
-they leave."""
+"""The definitions of a hart with extension A, fence.i, misaligned accesses, compressed code, Zba,
+Zbb and Zbs beside qemu-riscv32: random steps, each with its registers, pc and accesses, and the
+memory that they leave."""
 
 import random
 import re
@@ -12,8 +12,15 @@ from .user import CODE, DATA, EDGES, END, LOW, b_type, i_type, j_type, load_cons
 STACK = 2                       # a third base, which no instruction leaves changed
 BASES = (DATA, LOW, STACK)
 AMOS = [0x01, 0x00, 0x04, 0x0C, 0x08, 0x10, 0x14, 0x18, 0x1C]
-PROFILE = 1 + 2 + 4 + 8         # all that a profile has
+PROFILE = 1 + 2 + 4 + 8 + 32 + 64 + 128     # all that a profile has
 NOP = 0x0001                    # c.nop
+# funct7 and funct3 of Zba, Zbb and Zbs: of two registers, of a register and an amount, and of a
+# register alone, with what stands in the place of rs2
+TWO = [(0x10, 2), (0x10, 4), (0x10, 6), (0x20, 7), (0x20, 6), (0x20, 4), (0x05, 4), (0x05, 5),
+       (0x05, 6), (0x05, 7), (0x30, 1), (0x30, 5), (0x24, 1), (0x24, 5), (0x34, 1), (0x14, 1)]
+AMOUNT = [(0x30, 5), (0x24, 1), (0x24, 5), (0x34, 1), (0x14, 1)]
+ONE = [(0x30, 1, 0), (0x30, 1, 1), (0x30, 1, 2), (0x30, 1, 4), (0x30, 1, 5), (0x14, 5, 7),
+       (0x34, 5, 24)]
 
 
 def halves(*words):
@@ -127,6 +134,21 @@ def atomic(chance):
     return halves(r_type(chance.choice(AMOS) << 2 | order[0], rs2, base, 2, rd[0], 0x2F))
 
 
+def bits(chance):
+    """An instruction of Zba, Zbb or Zbs."""
+    rd = chance.choice([r for r in range(32) if r not in BASES])
+    rs1, rs2, kind = chance.randrange(32), chance.randrange(32), chance.randrange(29)
+    if kind == 0:       # zext.h
+        return halves(r_type(0x04, 0, rs1, 4, rd, 0x33))
+    if kind < 8:
+        funct7, funct3, rs2 = ONE[kind - 1]
+    elif kind < 13:
+        funct7, funct3 = AMOUNT[kind - 8]
+    else:
+        funct7, funct3 = TWO[kind - 13]
+    return halves(r_type(funct7, rs2, rs1, funct3, rd, 0x33 if kind >= 13 else 0x13))
+
+
 def word(chance):
     """An instruction of the table that goes on to the next, also a misaligned load or store."""
     while True:
@@ -147,7 +169,7 @@ def random_program(seed, count):
         value = {DATA: 0x2800, LOW: 0xFFFFFE00, STACK: 0x2400}.get(
             register, chance.choice(EDGES) if chance.random() < 0.6 else chance.getrandbits(32))
         code += halves(*load_constant(register, value))
-    kinds = [compressed] * 5 + [word] * 4 + [jump] * 2 + [atomic]
+    kinds = [compressed] * 5 + [word] * 4 + [bits] * 3 + [jump] * 2 + [atomic]
     for _ in range(count):
         code += chance.choice(kinds)(chance) if chance.random() < 0.98 else halves(0x100F)
     # write(1, 0, END); exit(0)
