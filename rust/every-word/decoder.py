@@ -1,9 +1,9 @@
 #!/usr/bin/env python3
-"""Writes a decoder of RV32IMC in C that is QEMU's: its tables, insn32.decode and insn16.decode, through
+"""Writes a decoder of RV32IMC, Zba, Zbb and Zbs in C that is QEMU's: its tables, insn32.decode and insn16.decode, through
 its own generator, decodetree.py, which makes of each a tree of tests that call trans_NAME with the
 fields of the word. For a half-word that is the row that it stands for. What is written here is these
-functions: for a name of RV32IM one that stores its row and its fields, and for each other name one that
-refuses the word, as QEMU does where the hart has not that extension.
+functions: for a name of RV32IM, Zba, Zbb or Zbs one that stores its row and its fields, and for each
+other name one that refuses the word, as QEMU does where the hart has not that extension.
 
 usage: decoder.py QEMU INTO
 
@@ -25,7 +25,16 @@ ROWS = {
     "B": "beq bne blt bltu bge bgeu",
     "U": "lui auipc",
     "J": "jal",
+    "BITS": "sh1add sh2add sh3add andn orn xnor max maxu min minu rol ror bclr bext binv bset",
+    "AMOUNT": "rori bclri bexti binvi bseti",
+    "ALONE": "clz ctz cpop sext_b sext_h zext_h_32 orc_b rev8_32",
 }
+# The format of fields that a row of each kind has: those of the last three kinds are as of R, with an
+# amount or a number in the place of rs2.
+FORMATS = ["R", "I", "SHAMT", "S", "B", "U", "J"]
+# QEMU's names that are not the standard's
+NAMES = {"sext_b": "sext.b", "sext_h": "sext.h", "zext_h_32": "zext.h", "orc_b": "orc.b",
+         "rev8_32": "rev8"}
 # What a row stores of its fields. QEMU's table has seven bits of a shift amount, and its
 # gen_shift_imm_fn refuses those of XLEN and more.
 STORED = {
@@ -36,6 +45,9 @@ STORED = {
     "B": "d->rs1 = a->rs1; d->rs2 = a->rs2; d->imm = a->imm;",
     "U": "d->rd = a->rd; d->imm = a->imm;",
     "J": "d->rd = a->rd; d->imm = a->imm;",
+    "BITS": "d->rd = a->rd; d->rs1 = a->rs1; d->rs2 = a->rs2;",
+    "AMOUNT": "if (a->shamt >= 32) return false; d->rd = a->rd; d->rs1 = a->rs1; d->rs2 = a->shamt;",
+    "ALONE": "d->rd = a->rd; d->rs1 = a->rs1; d->rs2 = d->word >> 20 & 31;",
 }
 # The table gives these rows no immediate and no register. They store those of its format @i.
 WITHOUT_FORMAT = ("fence", "ecall", "ebreak")
@@ -108,7 +120,8 @@ def function(name, row, table):
     if name in WITHOUT_FORMAT:
         stored = "arg_i i; decode_insn32_extract_i(d, &i, d->word); " + (
             FENCE if name == "fence" else "(void)a;") + " " + stored.replace("a->", "i.")
-    return (f"{head} {{ {stored} d->row = {number}; d->format = {list(ROWS).index(kind)};"
+    form = FORMATS.index(kind) if kind in FORMATS else 0
+    return (f"{head} {{ {stored} d->row = {number}; d->format = {form};"
             f" d->funct7 = {fixed >> 25}; d->funct3 = {fixed >> 12 & 7}; return true; }}")
 
 
@@ -140,7 +153,7 @@ def main():
     text += TAIL % fixed_bits(table, "ebreak")
     text += "\n".join(function(name, rows.get(name), table) for name in asked) + "\n"
     (into / "decoder.c").write_text(text)
-    quoted = ", ".join(f'"{name}"' for name in names)
+    quoted = ", ".join(f'"{NAMES.get(name, name)}"' for name in names)
     (into / "names.rs").write_text(f"const NAMES: [&str; {len(names)}] = [{quoted}];\n")
 
 

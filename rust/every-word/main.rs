@@ -1,6 +1,7 @@
-//! Compares the kit's decoder, word by word, with the decoder that `decoder.py` makes of QEMU's
-//! tables, and the texts' rows; and with the feature `original` with rrs-lib 0.1.0, with its texts. It
-//! compares each half-word too that is no part of a word: the row that it stands for.
+//! Compares the kit's decoder and that of Zba, Zbb and Zbs, word by word, with the decoder that
+//! `decoder.py` makes of QEMU's tables, and the texts' rows; and with the feature `original` the kit's
+//! with rrs-lib 0.1.0, with its texts. It compares each half-word too that is no part of a word: the
+//! row that it stands for.
 //!
 //! usage: every-word all | every-word PART
 //!
@@ -11,6 +12,7 @@ use kit::disassembly::Disassembled;
 use kit::hart::{Encoding, row_in};
 use kit::instruction::{Instruction, InstructionFields, decode};
 use kit::instruction_formats::{BType, IType, ITypeShamt, JType, RType, SType, UType};
+use kit::machine::system::{LayerInstruction, bit_text, decode_bits, decode_layer};
 use std::fmt::Arguments;
 use std::process::ExitCode;
 use std::sync::atomic::{AtomicU64, Ordering::Relaxed};
@@ -23,6 +25,8 @@ include!(env!("NAMES"));
 /// Words that are instructions: 22 rows with 22 bits that are free, 3 with 25, 21 with 15, and
 /// `ecall` and `ebreak`.
 const INSTRUCTIONS: u64 = (22 << 22) + (3 << 25) + (21 << 15) + 2;
+/// Words that are instructions of Zba, Zbb or Zbs: 21 with 15 bits that are free, and 8 with 10.
+const BITS: u64 = (21 << 15) + (8 << 10);
 /// Words that the original takes for `slli`, for 127 more funct7, and for `jalr`, for 7 more funct3;
 /// and `ecall` and `ebreak`, which it does not decode.
 const LISTED: u64 = (127 << 15) + (7 << 22) + 2;
@@ -96,10 +100,29 @@ fn decode_by_qemu(encoding: Encoding) -> Option<(&'static str, InstructionFields
     Some((NAMES[found.row as usize], fields))
 }
 
+/// Whether the decoder of Zba, Zbb and Zbs, and that of all layers, have the row by the text's name and
+/// the fields that QEMU's has. `None` is of no such instruction.
+fn is_qemus_layer(word: u32, qemus: Option<(&'static str, InstructionFields)>) -> bool {
+    let found = decode_bits(word);
+    let is_one = match (found, qemus) {
+        (None, None) => true,
+        (Some(bits), Some((name, fields))) => {
+            InstructionFields::R(bits.fields) == fields
+                && bit_text(&bits).as_str().split(' ').next() == Some(name)
+        }
+        _ => false,
+    };
+    let of_layers = match decode_layer(word) {
+        Some(LayerInstruction::Bits(bits)) => Some(bits),
+        _ => None,
+    };
+    is_one && of_layers == found
+}
+
 /// Whether the kit has the row and the fields that QEMU's decoder has, and the text that row's name.
 fn is_qemus(word: u32, decoded: Option<Instruction>) -> bool {
     match (decoded, decode_by_qemu(Encoding::Long(word))) {
-        (None, None) => true,
+        (None, qemus) => is_qemus_layer(word, qemus),
         (Some(instruction), Some((name, fields))) => {
             let text = Disassembled { instruction, pc: PC }.text();
             instruction.mnemonic() == name
@@ -138,6 +161,7 @@ fn is_listed(word: u32) -> bool {
 #[derive(Default)]
 struct Seen {
     instructions: AtomicU64,
+    bits: AtomicU64,
     listed: AtomicU64,
     wrong: AtomicU64,
     next: AtomicU64,
@@ -151,10 +175,12 @@ impl Seen {
         }
     }
 
-    /// Compares a word. The numbers are of the chunk.
-    fn compare(&self, word: u32, instructions: &mut u64, _listed: &mut u64) {
+    /// Compares a word, and counts what it is: a row, one of Zba, Zbb and Zbs, and one in which the
+    /// original differs.
+    fn compare(&self, word: u32, [instructions, bits, _listed]: &mut [u64; 3]) {
         let decoded = decode(word);
         *instructions += u64::from(decoded.is_some());
+        *bits += u64::from(decode_bits(word).is_some());
         if !is_qemus(word, decoded) {
             self.says(format_args!("0x{word:08x}"), "QEMU's");
         }
@@ -187,12 +213,13 @@ impl Seen {
             if begin >= end {
                 return;
             }
-            let (mut instructions, mut listed) = (0, 0);
+            let mut counts = [0; 3];
             for index in begin..begin + CHUNK {
-                self.compare((index as u32).wrapping_mul(STRIDE), &mut instructions, &mut listed);
+                self.compare((index as u32).wrapping_mul(STRIDE), &mut counts);
             }
-            self.instructions.fetch_add(instructions, Relaxed);
-            self.listed.fetch_add(listed, Relaxed);
+            for (sum, count) in [&self.instructions, &self.bits, &self.listed].iter().zip(counts) {
+                sum.fetch_add(count, Relaxed);
+            }
         }
     }
 }
@@ -214,20 +241,25 @@ fn main() -> ExitCode {
         }
     });
     for word in ENVIRONMENT {
-        seen.compare(word, &mut 0, &mut 0);
+        seen.compare(word, &mut [0; 3]);
     }
     let short = seen.compare_halves();
-    let (instructions, listed) = (seen.instructions.into_inner(), seen.listed.into_inner());
+    let [instructions, bits, listed] =
+        [seen.instructions, seen.bits, seen.listed].map(AtomicU64::into_inner);
     let is_counted = short == SHORT
         && (asked != "all"
-            || (instructions == INSTRUCTIONS && (listed == LISTED || !cfg!(feature = "original"))));
+            || (instructions == INSTRUCTIONS
+                && bits == BITS
+                && (listed == LISTED || !cfg!(feature = "original"))));
     let wrong = seen.wrong.into_inner();
     if wrong > 0 || !is_counted {
         println!("{wrong} words are wrong; {instructions} are instructions, and {listed} differ");
+        println!("{bits} are instructions of Zba, Zbb or Zbs");
         println!("{short} half-words stand for one");
         return ExitCode::FAILURE;
     }
     println!("{} words, {instructions} of them instructions: as QEMU's decoder", end - begin);
+    println!("{bits} more are instructions of Zba, Zbb or Zbs: as QEMU's decoder");
     println!("{HALVES} half-words, {short} of them instructions: as QEMU's decoder");
     if cfg!(feature = "original") {
         println!("as the original, but for {listed} words that are listed");
