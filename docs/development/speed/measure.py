@@ -148,6 +148,18 @@ def short_loop():
     return struct.pack(f"<{len(halves)}H", *halves)
 
 
+def layers_loop(word):
+    """A loop of five with this word, for which x8 is the address of data."""
+    return [
+        0x0000_1417,  # auipc x8, 1
+        addi(5, 5, 1),
+        word,
+        0x0063_83b3,  # add x7, x7, x6
+        0x0074_c4b3,  # xor x9, x9, x7
+        jal(-16),
+    ]
+
+
 def timed(loop):
     """Firmware that runs a loop, and sets the alarm again at each interrupt of its timer."""
     return [
@@ -287,6 +299,9 @@ def commands_of(room, rrs):
             elf[file] = made(room, name_of(file), executable(code.read()))
     board = made(room, "board", executable(words_of(timed(mixed_loop())), 0x8000_0000))
     short = made(room, "short", executable(short_loop(), 0x1000, flags=1))
+    # auipc x2, 1: where its data stands
+    short_board = made(room, "short board",
+                       executable(words_of(timed([0x0000_1117])) + short_loop(), 0x8000_0000, flags=1))
 
     def by_program(command, **more):
         columns = {name_of(file): Count(command(file), **more) for file in PROGRAMS}
@@ -308,6 +323,8 @@ def commands_of(room, rrs):
         "`rrs gdb`: `continue` without a history": by_program(gdb, said=lambda n: packets(n, 0)),
         "`rrs gdb`: `continue` with one": by_program(gdb, said=packets),
         "`rrs board`": {"a mixed loop": Count(lambda n: [rrs, "board", "--limit", str(n), board])},
+        "`rrs board` of compressed code": {
+            "a mixed loop": Count(lambda n: [rrs, "board", "--limit", str(n), short_board])},
         "`rrs cover`": by_program(run("cover", *nowhere)),
         "`rrs trace`": by_program(run("trace", *nowhere)),
     }
@@ -348,6 +365,27 @@ def sizes(room, _):
     return rows
 
 
+# An instruction of each layer, and what it is.
+LAYERS = {
+    "`amoadd.w`": 0x0054_232f,                # amoadd.w x6, x5, (x8)
+    "a misaligned `lw`": 0x0014_2303,         # lw x6, 1(x8)
+    "a misaligned `sw`": 0x0054_20a3,         # sw x5, 1(x8)
+    "`fence.i`": 0x0000_100f,
+    "`sh1add`": 0x2082_a333,                  # sh1add x6, x5, x8
+    "`clz`": 0x6002_9313,                     # clz x6, x5
+    "`orc.b`": 0x2872_d313,                   # orc.b x6, x5
+}
+
+
+def layers(room, _):
+    """`rrs exec` over loops of five, of which one is of a layer."""
+    rows = {}
+    for name, word in LAYERS.items():
+        file = made(room, name.strip("`"), executable(words_of(layers_loop(word))))
+        rows[name] = {"`rrs exec`": Count(lambda n, f=file: [RRS, "exec", "--limit", str(n), f])}
+    return rows
+
+
 # The calls of calls.c, and how many steps each makes.
 CALLS = [("step", 1), ("run", ALL), ("run", 100), ("run_cached", ALL), ("run_cached", 100),
          ("run_until", ALL), ("run_until_cached", ALL), ("run_until_cached", 100)]
@@ -368,7 +406,7 @@ def c_calls(room, _):
 
 
 TABLES = {"interpreters": interpreters, "commands": commands, "plain": plain, "calls": ways,
-          "sizes": sizes, "C": c_calls}
+          "layers": layers, "sizes": sizes, "C": c_calls}
 
 
 def count_all(room, with_peers, only=""):
