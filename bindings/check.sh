@@ -88,7 +88,7 @@ gather_questions() {
     count=$((${count%%:*} - 1))
     head -n "$count" "$replay/stdin" | cat - "$here/answers/questions" >"$room/questions" &&
         head -n "$count" "$replay/stdout" | cat - "$here/answers/answers" >"$room/answers" &&
-        [ "$count" = 3402 ] && [ "$(wc -l <"$room/questions")" = 9118 ]
+        [ "$count" = 3402 ] && [ "$(wc -l <"$room/questions")" = 9269 ]
 }
 
 # answers COMMAND ..: it answers the questions as is stored, and without a word on standard error
@@ -464,7 +464,7 @@ all() {
     try "three_words refuses a library of another version" c_refuses
     try "the library for Python" gcc -shared -o "$room/librrs.so" \
         -Wl,--whole-archive "$library" -Wl,--no-whole-archive
-    try "python: its tests" python_passes 58 1281 18
+    try "python: its tests" python_passes 61 1339 20
     try "python: three_words prints what is stored" python_prints
     try "python: replay answers as is stored" answers python replay.py
     try "python: replay refuses a line with more" refuses_lines python replay.py
