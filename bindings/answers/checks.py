@@ -14,11 +14,12 @@ ROW_NAMES = """add sub sll slt sltu xor srl sra or and addi slli slti sltiu xori
 auipc beq bne blt bltu bge bgeu lb lbu lh lhu lw sb sh sw jal jalr mul mulh mulhu mulhsu div divu rem
 remu fence ecall ebreak""".split()
 # The instructions above the table, numbered from 49 on: the word of each without rd, rs1, rs2 and the
-# number of a CSR, and which of these it has, by the manual's listings of Zicsr, Zifencei, A and B.
+# number of a CSR, and which of these it has, by the manual's listings of Zicsr, Zifencei, A, B, Zbc,
+# Zbkb and Zicond.
 LAYER_NAMES = """csrrw csrrs csrrc csrrwi csrrsi csrrci mret wfi fence.i lr.w sc.w amoswap.w amoadd.w
 amoxor.w amoand.w amoor.w amomin.w amomax.w amominu.w amomaxu.w sh1add sh2add sh3add andn orn xnor clz
 ctz cpop max maxu min minu sext.b sext.h zext.h rol ror rori orc.b rev8 bclr bclri bext bexti binv binvi
-bset bseti""".split()
+bset bseti clmul clmulh clmulr pack packh brev8 zip unzip czero.eqz czero.nez""".split()
 LAYERS = [*((funct3 << 12 | 0x73, "csr") for funct3 in (1, 2, 3, 5, 6, 7)), (0x30200073, ""),
           (0x10500073, ""), (0x100F, "csr"), (0x1000202F, "lr"),
           *((funct5 << 27 | 0x202F, "amo") for funct5 in (3, 1, 0, 4, 12, 8, 16, 20, 24, 28)),
@@ -29,7 +30,9 @@ LAYERS = [*((funct3 << 12 | 0x73, "csr") for funct3 in (1, 2, 3, 5, 6, 7)), (0x3
           (0x60001033, "two"), (0x60005033, "two"), (0x60005013, "by"), (0x28705013, "one"),
           (0x69805013, "one"), (0x48001033, "two"), (0x48001013, "by"), (0x48005033, "two"),
           (0x48005013, "by"), (0x68001033, "two"), (0x68001013, "by"), (0x28001033, "two"),
-          (0x28001013, "by")]
+          (0x28001013, "by"), (0x0A001033, "two"), (0x0A003033, "two"), (0x0A002033, "two"),
+          (0x08004033, "some"), (0x08007033, "two"), (0x68705013, "one"), (0x08F01013, "one"),
+          (0x08F05013, "one"), (0x0E005033, "two"), (0x0E007033, "two")]
 REGISTERS = ["zero", "ra", "sp", "gp", "tp", "t0", "t1", "t2", "s0", "s1",
              *(f"a{n}" for n in range(8)), *(f"s{n}" for n in range(2, 12)), "t3", "t4", "t5", "t6"]
 FAULTS = ["no exception", "illegal instruction", "fetch access fault", "load access fault",
@@ -62,8 +65,8 @@ def layers():
                 answer = f"{row} rd={rd} rs1={rs1} rs2=0 shamt=0 imm={high}"
             elif fields == "":
                 word, answer = fixed, f"{row} rd=0 rs1=0 rs2=0 shamt=0 imm={fixed >> 20}"
-            elif fields in ("one", "two", "by"):
-                last = 0 if fields == "one" else rs2
+            elif fields in ("one", "two", "some", "by"):
+                last = 0 if fields == "one" else rs2 or int(fields == "some")
                 word = fixed | last << 20 | rs1 << 15 | rd << 7
                 second, amount = (0, last) if fields == "by" else (last, 0)
                 answer = f"{row} rd={rd} rs1={rs1} rs2={second} shamt={amount} imm=0"
@@ -72,10 +75,10 @@ def layers():
                 word = fixed | order << 25 | rs2 << 20 | rs1 << 15 | rd << 7
                 answer = f"{row} rd={rd} rs1={rs1} rs2={rs2} shamt=0 imm={order}"
             yield f"fields {hexed(word)}", answer
-    # a wfi with rd, an lr.w with rs2, amoadd.d, funct5 5, funct3 4 and 0 of SYSTEM, a zext.h with rs2, a
-    # rori and a bseti by 32, an orc.b of another number, a clmul and a pack
-    for word in (0x105000F3, 0x1010202F, 0x0000302F, 0x2800202F, 0x00004073, 0x30200173, 0x08104033,
-                 0x62005013, 0x2A001013, 0x28605013, 0x0A001033, 0x08204033):
+    # a wfi with rd, an lr.w with rs2, amoadd.d, funct5 5, funct3 4 and 0 of SYSTEM, a packh of funct3 6,
+    # a rori and a bseti by 32, an orc.b and a zip of another number, a czero of funct3 6
+    for word in (0x105000F3, 0x1010202F, 0x0000302F, 0x2800202F, 0x00004073, 0x30200173, 0x08006033,
+                 0x62005013, 0x2A001013, 0x28605013, 0x08E01013, 0x0E006033):
         yield f"fields {hexed(word)}", "none"
 
 

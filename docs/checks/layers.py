@@ -29,7 +29,8 @@ def form_of(layer, name, rest):
     """The form of the operands of an instruction, of rrs_asm_output."""
     if layer == "bit":
         kind = rest.split()[-1]
-        return {"Register": "Registers", "Amount": "Shift"}.get(kind, "Copy")
+        forms = {"Register": "Registers", "NotX0": "Registers", "Amount": "Shift"}
+        return forms.get(kind, "Copy")
     if layer == "atomic":
         return "Reserved" if name == "lr.w" else "Atomic"
     if not name.startswith("csr"):
@@ -70,13 +71,15 @@ def of_names(rows):
 
 
 def of_bits(rows):
-    """The words of those of Zba, Zbb and Zbs, whose fields are those of the table."""
+    """The words of those of Zba to Zicond, whose fields are those of the table, and whose rs2 is x1
+    where it can't be x0."""
     lines = []
     for row in rows:
-        found = re.match(r" Zb\w (\w+) (\w+) (\w+) (?:\w+|\(Fixed (\d+)\))$", row.rest)
+        found = re.match(r" Z\w+ (\w+) (\w+) (\w+) (?:(\w+)|\(Fixed (\d+)\))$", row.rest)
         if found:
-            opcode, funct7, funct3, fixed = (int(text or "0", 0) for text in found.groups())
-            word = f"{funct7 << 25 | fixed << 20 | funct3 << 12 | opcode:08x}"
+            opcode, funct7, funct3 = (int(text, 0) for text in found.groups()[:3])
+            second = 1 if found[4] == "NotX0" else int(found[5] or "0")
+            word = f"{funct7 << 25 | second << 20 | funct3 << 12 | opcode:08x}"
             lines.append(f"    0x{word[:4]}_{word[4:]}, // {row.name}")
     return lines
 

@@ -37,8 +37,10 @@ CSR_IMMEDIATE = "csrrwi csrrsi csrrci".split()
 CSR_WRITES = "csrw csrs csrc".split()
 ATOMIC = "sc.w amoswap.w amoadd.w amoxor.w amoand.w amoor.w amomin.w amomax.w amominu.w amomaxu.w".split()
 BITS_OF_THREE = ("sh1add sh2add sh3add andn orn xnor max maxu min minu rol ror bclr bext binv "
-                 "bset").split()
-BITS_OF_TWO = "clz ctz cpop sext.b sext.h zext.h orc.b rev8".split()
+                 "bset clmul clmulh clmulr packh").split()
+BITS_OF_TWO = "clz ctz cpop sext.b sext.h zext.h orc.b rev8 brev8 zip unzip".split()
+# those that GNU as 2.40 does not have
+CONDITIONAL = "czero.eqz czero.nez".split()
 BIT_SHIFTS = "rori bclri bexti binvi bseti".split()
 ORDERS = ["", "", ".aq", ".rl", ".aqrl"]
 COUNTERS = "rdcycle rdtime rdinstret rdcycleh rdtimeh rdinstreth".split()
@@ -302,10 +304,11 @@ class Source:
         return self.random.choice([self.system, self.system, self.atomic, self.bits])()
 
     def bits(self):
-        """An instruction of Zba, Zbb or Zbs."""
+        """An instruction of Zba to Zbkb. As pack has no x0, it has a1."""
         r, join, pick = self.register, self.join, self.random.choice
         return pick([f"{pick(BITS_OF_THREE)} {join(r(), r(), r())}", f"{pick(BITS_OF_TWO)} {join(r(), r())}",
-                     f"{pick(BIT_SHIFTS)} {join(r(), r(), self.number(0, 31))}"])
+                     f"{pick(BIT_SHIFTS)} {join(r(), r(), self.number(0, 31))}",
+                     f"pack {join(r(), r(), 'a1')}"])
 
     def atomic(self):
         """An instruction of extension A."""

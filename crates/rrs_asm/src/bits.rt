@@ -1,4 +1,4 @@
-//! Reading the instructions of Zba, Zbb and Zbs.
+//! Reading the instructions of Zba to Zicond.
 
 ghost use Rattle.std.specs.Prelude.{◌≡◌, IfSome};
 ghost use Rattle.rrs_words.specs.BitInstructions.{bit_table};
@@ -9,7 +9,7 @@ use rrs_asm_lines::Line;
 use rrs_instruction::instruction_formats::RType;
 use rrs_words::{BitInstruction, BitOperand, LayerInstruction, decode_bits};
 
-/// The words of the instructions, of x0 alone and the amount 0.
+/// The words of the instructions, of x0 alone where they can be, and the amount 0.
 const WORDS: &[u32] = &[
     // docs/check --write writes them
     0x2000_2033, // sh1add
@@ -41,6 +41,16 @@ const WORDS: &[u32] = &[
     0x6800_1013, // binvi
     0x2800_1033, // bset
     0x2800_1013, // bseti
+    0x0a00_1033, // clmul
+    0x0a00_3033, // clmulh
+    0x0a00_2033, // clmulr
+    0x0810_4033, // pack
+    0x0800_7033, // packh
+    0x6870_5013, // brev8
+    0x08f0_1013, // zip
+    0x08f0_5013, // unzip
+    0x0e00_5033, // czero.eqz
+    0x0e00_7033, // czero.nez
 ];
 
 /// The instruction of a name, with x0 alone and the amount 0.
@@ -73,7 +83,7 @@ pub fn read_bits(line: &mut Line, template: BitInstruction) -> Statement
     line.comma();
     let rs1 = line.register();
     let rs2 = match row.operand() {
-        BitOperand::Register => {
+        BitOperand::Register | BitOperand::NotX0 => {
             line.comma();
             line.register()
         }

@@ -1,8 +1,8 @@
 //! An assembler for what people write: a file of assembly in, its bytes out.
 //!
-//! [assemble_source] reads a source of RV32I with multiply and divide, extension A, Zba, Zbb and
-//! Zbs, the instructions on CSRs and the compressed ones, with the names of the ABI, numbers, labels, pseudo-instructions
-//! and directives. `docs/ASSEMBLY.md` has the syntax.
+//! [assemble_source] reads a source of RV32I with multiply and divide, extension A, Zba to Zicond,
+//! the instructions on CSRs and the compressed ones, with the names of the ABI, numbers, labels,
+//! pseudo-instructions and directives. `docs/ASSEMBLY.md` has the syntax.
 //!
 //! A source is read three times: for how long its sections are, for what its symbols stand for, and
 //! for its statements, each of which is placed after the one before. One with `%pcrel_hi` is read

@@ -110,10 +110,14 @@ pub static NAMES: [(&[u8], Form); 39] = [
         Form::Atomic,
     ),
     (
-        b"sh1add sh2add sh3add andn orn xnor max maxu min minu rol ror bclr bext binv bset",
+        b"sh1add sh2add sh3add andn orn xnor max maxu min minu rol ror bclr bext binv bset clmul \
+            clmulh clmulr pack packh czero.eqz czero.nez",
         Form::Registers,
     ),
-    (b"clz ctz cpop sext.b sext.h zext.h orc.b rev8", Form::Copy),
+    (
+        b"clz ctz cpop sext.b sext.h zext.h orc.b rev8 brev8 zip unzip",
+        Form::Copy,
+    ),
     (b"rori bclri bexti binvi bseti", Form::Shift),
     // The compressed ones.
     (b"c.sub c.xor c.or c.and c.mv c.add", Form::Copy),

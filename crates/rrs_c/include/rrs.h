@@ -188,7 +188,7 @@ rrs_difference rrs_compare(const rrs_retired *model, const rrs_retired *core, ui
 uint32_t rrs_cause(const rrs_fault *fault, uint32_t pc, uint32_t word);
 
 /* The rows of the table, as rrs_decode numbers them, and behind them the instructions above it: those
- * on CSRs, mret, wfi and fence.i, extension A, and Zba, Zbb and Zbs. */
+ * on CSRs, mret, wfi and fence.i, extension A, and Zba to Zicond. */
 enum rrs_row {
     RRS_ROW_ILLEGAL = 0,
     RRS_ROW_ADD = 1,
@@ -287,16 +287,26 @@ enum rrs_row {
     RRS_ROW_BINV = 94,
     RRS_ROW_BINVI = 95,
     RRS_ROW_BSET = 96,
-    RRS_ROW_BSETI = 97
+    RRS_ROW_BSETI = 97,
+    RRS_ROW_CLMUL = 98,
+    RRS_ROW_CLMULH = 99,
+    RRS_ROW_CLMULR = 100,
+    RRS_ROW_PACK = 101,
+    RRS_ROW_PACKH = 102,
+    RRS_ROW_BREV8 = 103,
+    RRS_ROW_ZIP = 104,
+    RRS_ROW_UNZIP = 105,
+    RRS_ROW_CZERO_EQZ = 106,
+    RRS_ROW_CZERO_NEZ = 107
 };
 
 /* An instruction. A field that its format does not have is 0. The format of fence, ecall and ebreak
  * is I: the imm of ecall is 0 and of ebreak 1, and fence has any rd, rs1 and imm. Above the table the
  * imm of an instruction on a CSR is the number of the CSR, 0 to 4095, and its rs1 may be a number; and
- * the imm of one of extension A is 2 for aq and 1 for rl. Of Zba, Zbb and Zbs an amount is shamt. */
+ * the imm of one of extension A is 2 for aq and 1 for rl. Of Zba to Zicond an amount is shamt. */
 typedef struct rrs_instruction {
     uint32_t row;   /* One of enum rrs_row: its number in the table, 1 (add) to 48 (ebreak), a number
-                     * from 49 (csrrw) to 97 (bseti) above it, or 0 for a word that is none. */
+                     * from 49 (csrrw) to 107 (czero.nez) above it, or 0 for a word that is none. */
     uint32_t rd;    /* The register that is written, by the format. */
     uint32_t rs1;   /* The first register that is read. */
     uint32_t rs2;   /* The second register that is read. */
@@ -408,7 +418,10 @@ enum rrs_hart_layer {
     RRS_HART_C = 8,          /* Extension C: instructions of 16 bits, at even addresses. */
     RRS_HART_ZBA = 32,       /* Zba: sums of shifted numbers. */
     RRS_HART_ZBB = 64,       /* Zbb: operations on bits and bytes. */
-    RRS_HART_ZBS = 128       /* Zbs: operations on one bit. */
+    RRS_HART_ZBS = 128,      /* Zbs: operations on one bit. */
+    RRS_HART_ZBC = 256,      /* Zbc: products without carries. */
+    RRS_HART_ZBKB = 512,     /* Zbkb: bit manipulation for cryptography. */
+    RRS_HART_ZICOND = 1024   /* Zicond: conditional zeros. */
 };
 
 /* The address that a hart has reserved by lr.w. {0} is none. */
@@ -452,9 +465,12 @@ enum rrs_machine_layer {
     RRS_MACHINE_C = 4,          /* Extension C: instructions of 16 bits, at even addresses. */
     RRS_MACHINE_MISALIGNED = 8, /* Loads and stores at misaligned addresses are carried out. */
     RRS_MACHINE_NO_FENCE_I = 16, /* It has no fence.i. */
-    RRS_MACHINE_ZBA = 32,        /* Zba, Zbb and Zbs, as in enum rrs_hart_layer. */
+    RRS_MACHINE_ZBA = 32,        /* Zba to Zicond, as in enum rrs_hart_layer. */
     RRS_MACHINE_ZBB = 64,
-    RRS_MACHINE_ZBS = 128
+    RRS_MACHINE_ZBS = 128,
+    RRS_MACHINE_ZBC = 256,
+    RRS_MACHINE_ZBKB = 512,
+    RRS_MACHINE_ZICOND = 1024
 };
 
 /* The CSRs of a hart that has machine mode, with more by its profile: RV32IM with Zicsr, Zifencei and

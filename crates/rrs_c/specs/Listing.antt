@@ -4,7 +4,7 @@ use Rattle.rrs_lib.specs.Encodings.{Fields}
 use Rattle.rrs_lib.specs.Table.{Row, table}
 use Rattle.rrs_lib.specs.Operands.{rd_of, rs1_of, rs2_of, immediate_of, shift_amount_of}
 use Rattle.rrs_words.specs.declared.bits.BitOperand.{BitOperand}
-use Rattle.rrs_words.specs.declared.bits.BitOperand.TheVariants.{Register, Amount}
+use Rattle.rrs_words.specs.declared.bits.BitOperand.TheVariants.{Register, NotX0, Amount}
 use Rattle.rrs_words.specs.BitInstructions.{bit_table}
 use Rattle.rrs_words.specs.declared.layers.LayerInstruction.{LayerInstruction}
 use Rattle.rrs_words.specs.declared.layers.LayerInstruction.TheVariants.{System, Atomic, Bits}
@@ -27,6 +27,7 @@ no_instruction = record { row = 0; rd = 0; rs1 = 0; rs2 = 0; shamt = 0; imm = po
 -- what stands in the place of rs2, as the number of a register and as a shift amount
 abbrev pub register_in : BitOperand → ℕ → ℕ
 register_in Register n = n
+register_in NotX0 n = n
 register_in _ n = 0
 
 abbrev pub amount_in : BitOperand → ℕ → ℕ

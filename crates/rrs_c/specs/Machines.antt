@@ -33,8 +33,8 @@ use Rattle.rrs_c.specs.Records.{retired_in, IsRecord}
 -- ---- the machine
 
 -- bit 0 of a profile is extension A, bit 1 user mode, bit 2 the compressed instructions, bit 3
--- misaligned loads and stores, bit 4 says that there is no fence.i, and bits 5 to 7 are Zba, Zbb and
--- Zbs; no other bit is looked at
+-- misaligned loads and stores, bit 4 says that there is no fence.i, and bits 5 to 10 are Zba, Zbb,
+-- Zbs, Zbc, Zbkb and Zicond; no other bit is looked at
 abbrev pub profile_in : ℕ → Profile
 profile_in bits = record {
   hart = record {
@@ -45,6 +45,9 @@ profile_in bits = record {
     zba = bit bits 5 == 1;
     zbb = bit bits 6 == 1;
     zbs = bit bits 7 == 1;
+    zbc = bit bits 8 == 1;
+    zbkb = bit bits 9 == 1;
+    zicond = bit bits 10 == 1;
   };
   user_mode = bit bits 1 == 1;
 }

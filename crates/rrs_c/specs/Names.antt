@@ -28,7 +28,7 @@ pub record NamesRow (number : ℕ) (name : Option (List ℕ)) : Type 0 where
       → name ≡ Some (atomic_table row).name
   pub of_bits : (row : BitRow) → number ≡ bit_number row → name ≡ Some (bit_table row).name
   pub zero : number ≡ 0 → name ≡ None
-  pub above : 97 < number → name ≡ None
+  pub above : 107 < number → name ≡ None
 
 -- the name of a row is put into a buffer
 pub record PutsRowName (number : ℕ) (old new : List ℕ) (told : ℕ) : Type 0 where

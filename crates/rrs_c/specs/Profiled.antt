@@ -11,8 +11,8 @@ use Rattle.rrs_c.specs.Harts.{state_in_c}
 use Rattle.rrs_c.specs.Machines.{reservation_in}
 
 -- bit 0 is extension A, bit 1 fence.i, bit 2 misaligned loads and stores, bit 3 the compressed
--- instructions, and bits 5 to 7 are Zba, Zbb and Zbs, as in the profile of a machine; no other bit is
--- looked at
+-- instructions, and bits 5 to 10 are Zba, Zbb, Zbs, Zbc, Zbkb and Zicond, as in the profile of a
+-- machine; no other bit is looked at
 abbrev pub hart_profile_in : ℕ → HartProfile
 hart_profile_in bits = record {
   atomics = bit bits 0 == 1;
@@ -22,6 +22,9 @@ hart_profile_in bits = record {
   zba = bit bits 5 == 1;
   zbb = bit bits 6 == 1;
   zbs = bit bits 7 == 1;
+  zbc = bit bits 8 == 1;
+  zbkb = bit bits 9 == 1;
+  zicond = bit bits 10 == 1;
 }
 
 -- the address that is reserved, if one is

@@ -103,13 +103,13 @@ fn second_of(instruction: &BitInstruction) -> (u32, u32)
         ≡ amount_in (bit_table instruction.now.row).operand instruction.now.fields.rs2 }
 {
     match instruction.row.operand() {
-        BitOperand::Register => (instruction.fields.rs2 as u32, 0),
+        BitOperand::Register | BitOperand::NotX0 => (instruction.fields.rs2 as u32, 0),
         BitOperand::Amount => (0, instruction.fields.rs2 as u32),
         BitOperand::Fixed(_) => (0, 0),
     }
 }
 
-/// The number and the fields of an instruction of Zba, Zbb or Zbs.
+/// The number and the fields of an instruction of Zba to Zicond.
 fn listed_bits(instruction: &BitInstruction) -> RrsInstruction
     requires { IsInRange (R instruction.now.fields) }
     ensures { result ≡ layer_listed (Bits instruction.now) }

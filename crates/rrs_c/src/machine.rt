@@ -104,7 +104,7 @@ pub struct RrsMachineRetired {
     pub csr_wdata: u32,
 }
 
-/// The profile that eight bits are.
+/// The profile that eleven bits are.
 #[inline]
 pub(crate) fn profile_of(bits: u32) -> Profile
     ensures { result ≡ profile_in bits }
@@ -118,6 +118,9 @@ pub(crate) fn profile_of(bits: u32) -> Profile
             zba: bits / 32 % 2 == 1,
             zbb: bits / 64 % 2 == 1,
             zbs: bits / 128 % 2 == 1,
+            zbc: bits / 256 % 2 == 1,
+            zbkb: bits / 512 % 2 == 1,
+            zicond: bits / 1024 % 2 == 1,
         },
         user_mode: bits / 2 % 2 == 1,
     }
@@ -136,6 +139,9 @@ fn profile_bits(profile: Profile) -> u32
         + 32 * flag(profile.hart.zba)
         + 64 * flag(profile.hart.zbb)
         + 128 * flag(profile.hart.zbs)
+        + 256 * flag(profile.hart.zbc)
+        + 512 * flag(profile.hart.zbkb)
+        + 1024 * flag(profile.hart.zicond)
 }
 
 /// The mode, by whether it is user mode.

@@ -6,7 +6,7 @@ ghost use Rattle.rrs_c.specs.Names.{NamesRow, PutsName, bytes_of, named, fault_n
 use crate::text::put_text;
 
 /// The names of the rows and of the instructions of the layers, in the order of their numbers.
-const ROWS: [&str; 97] = [
+const ROWS: [&str; 107] = [
     "add",
     "sub",
     "sll",
@@ -104,6 +104,16 @@ const ROWS: [&str; 97] = [
     "binvi",
     "bset",
     "bseti",
+    "clmul",
+    "clmulh",
+    "clmulr",
+    "pack",
+    "packh",
+    "brev8",
+    "zip",
+    "unzip",
+    "czero.eqz",
+    "czero.nez",
 ];
 
 /// The names of the kinds of exceptions, from 0 on.
@@ -143,7 +153,7 @@ const FIELDS: [&str; 17] = [
 pub(crate) fn row_name(row: u32) -> Option<&'static str>
     ensures { NamesRow row (bytes_of result) }
 {
-    if row == 0 || 97 < row {
+    if row == 0 || 107 < row {
         return None;
     }
     Some(ROWS[row as usize - 1])

@@ -25,7 +25,7 @@ pub struct RrsReservation {
     pub address: u32,
 }
 
-/// The profile that seven bits are.
+/// The profile that ten bits are.
 #[inline]
 pub(crate) fn hart_profile_of(bits: u32) -> HartProfile
     ensures { result ≡ hart_profile_in bits }
@@ -38,6 +38,9 @@ pub(crate) fn hart_profile_of(bits: u32) -> HartProfile
         zba: bits / 32 % 2 == 1,
         zbb: bits / 64 % 2 == 1,
         zbs: bits / 128 % 2 == 1,
+        zbc: bits / 256 % 2 == 1,
+        zbkb: bits / 512 % 2 == 1,
+        zicond: bits / 1024 % 2 == 1,
     }
 }
 

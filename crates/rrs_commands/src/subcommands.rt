@@ -99,13 +99,13 @@ with --files-read-only it has them and can't change them. A load or a store at a
 misaligned address is carried out, and with --strict-alignment it is a fault. With
 --march the hart has the extensions of NAME and no others, as gcc's -march names them:
 rv32im, rv32ima, rv32imc or rv32imac, and behind it some of _zicsr, _zifencei, _zba,
-_zbb and _zbs. With --clock fixed its clocks stand at 0, so that each run is the same.
-Its random bytes are the same in each run, and with --random host they are others.
---env, which may stand 16 times, puts NAME=VALUE in its environment, which is empty
-else; of one NAME the last counts. A fault is told with its pc. Options stand before
-PROGRAM: the words after it are the program's own. With --raw the file's bytes stand at
-address 0 of 1 MiB and sp at its end, and there are no ARGUMENTs, no environment and no
-files.
+_zbb, _zbs, _zbc, _zbkb and _zicond. With --clock fixed its clocks stand at 0, so that
+each run is the same. Its random bytes are the same in each run, and with --random host
+they are others. --env, which may stand 16 times, puts NAME=VALUE in its environment,
+which is empty else; of one NAME the last counts. A fault is told with its pc. Options
+stand before PROGRAM: the words after it are the program's own. With --raw the file's
+bytes stand at address 0 of 1 MiB and sp at its end, and there are no ARGUMENTs, no
+environment and no files.
 
 Status: the program's own; 124 at the limit; 125 where it can't be run; 128 and
 the number of a signal for a fault: 132 illegal instruction, 133 breakpoint,

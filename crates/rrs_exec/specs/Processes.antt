@@ -30,6 +30,9 @@ process_profile strict = record {
   zba = true;
   zbb = true;
   zbs = true;
+  zbc = true;
+  zbkb = true;
+  zicond = true;
 }
 
 -- what the instructions of a hart lie in

@@ -48,8 +48,8 @@ pub struct ProcessEnd {
     pub pc: u32,
 }
 
-/// The layers that the hart of a process has where none are named: extension A, `fence.i`, Zba, Zbb
-/// and Zbs, and misaligned loads and stores unless these are strict.
+/// The layers that the hart of a process has where none are named: extension A, `fence.i`, Zba to
+/// Zicond, and misaligned loads and stores unless these are strict.
 pub fn process_profile(strict: bool) -> HartProfile
     ensures { result ≡ process_profile strict }
 {
@@ -61,6 +61,9 @@ pub fn process_profile(strict: bool) -> HartProfile
         zba: true,
         zbb: true,
         zbs: true,
+        zbc: true,
+        zbkb: true,
+        zicond: true,
     }
 }
 

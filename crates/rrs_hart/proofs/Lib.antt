@@ -1,5 +1,6 @@
 pub mod IllegalWords
 mod AnyBytes
+mod BitSums
 pub mod OneLayer
 pub mod OneShort
 pub mod ShortRegisters

@@ -68,7 +68,7 @@ other_opcode _ same = omega (arith, same)
 pub never_both : (w : ℕ) (row : AtomicRow) (row' : SystemRow) (f : RType) (f' : IType) → IsAtomic w row f → IsSystem w row' f' → ⊥
 never_both w row row' f f' is is' = other_opcode row' (sym (opcode_of w row' f' is') ∙ (atomic_places w row f is).0)
 
--- and those of Zba, Zbb and Zbs from both
+-- and those of Zba to Zicond from both
 no_system_opcode : (row : SystemRow) → ((system_table row).opcode ≡ 0x33) ⊎ ((system_table row).opcode ≡ 0x13) → ⊥
 no_system_opcode FenceI (inl same) = omega (arith, same)
 no_system_opcode FenceI (inr same) = omega (arith, same)

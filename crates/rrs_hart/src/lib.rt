@@ -7,7 +7,7 @@
 //! [fetch_in] and [execute_in] are a step in two parts, and [execute_word] and
 //! [execute_encoding_told] end one whose instruction was fetched.
 //! [execute_atomic] executes an instruction of extension A (`specs/Atomics.antt`), [execute_bits]
-//! one of Zba, Zbb or Zbs (`specs/Bits.antt`), and [access_by_bytes] a load or a store at any
+//! one of Zba to Zicond (`specs/Bits.antt`), and [access_by_bytes] a load or a store at any
 //! address (`specs/Anywhere.antt`).
 
 #![tactic(auto)]

@@ -16,7 +16,7 @@ fn has_system(profile: HartProfile, row: SystemRow) -> bool
     }
 }
 
-/// Whether a hart has an extension of Zba, Zbb and Zbs.
+/// Whether a hart has an extension of Zba to Zicond.
 fn has_bits(profile: HartProfile, extension: BitExtension) -> bool
     ensures { result ≡ has_bits profile extension }
 {
@@ -24,6 +24,10 @@ fn has_bits(profile: HartProfile, extension: BitExtension) -> bool
         BitExtension::Zba => profile.zba,
         BitExtension::Zbb => profile.zbb,
         BitExtension::Zbs => profile.zbs,
+        BitExtension::Zbc => profile.zbc,
+        BitExtension::Zbkb => profile.zbkb,
+        BitExtension::ZbbZbkb => profile.zbb || profile.zbkb,
+        BitExtension::Zicond => profile.zicond,
     }
 }
 

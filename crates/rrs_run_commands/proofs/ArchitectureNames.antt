@@ -1,8 +1,8 @@
 -- A name of an architecture is read in one way at most.
-use Rattle.std.proofs.Common.{◌≡◌, ◌≢◌, ◌⊎◌, inl, inr, ℕ, ◌==◌, if◌then◌else◌, List, [], ◌∷◌, ◌++◌, drop, codes, Bool, true, false, Option, Some, None, MatchOption, refl, sym, subst, ap, ◌∙◌, arith}
+use Rattle.std.proofs.Common.{◌≡◌, ◌≢◌, ◌⊎◌, inl, inr, ℕ, ◌+◌, ◌*◌, ◌==◌, if◌then◌else◌, List, [], ◌∷◌, ◌++◌, drop, codes, Bool, true, false, Option, Some, None, MatchOption, refl, sym, subst, ap, ◌∙◌, arith}
 use Rattle.std.proofs.lemmas.Option.{none-some}
 use Rattle.rrs_run_commands.specs.declared.architectures.Extension.{Extension}
-use Rattle.rrs_run_commands.specs.declared.architectures.Extension.TheVariants.{Zicsr, Zifencei, Zba, Zbb, Zbs}
+use Rattle.rrs_run_commands.specs.declared.architectures.Extension.TheVariants.{Zicsr, Zifencei, Zba, Zbb, Zbs, Zbc, Zbkb, Zicond}
 use Rattle.rrs_run_commands.specs.declared.architectures.Extensions.{Extensions}
 use Rattle.rrs_run_commands.specs.Architectures.{named, all_named, with_one, with_all, letter}
 
@@ -10,23 +10,33 @@ abbrev first : List ℕ → ℕ
 first [] = 0
 first (x ∷ xs) = x
 
--- ---- extensions: the fourth byte tells them
+-- ---- extensions: the third to the fifth byte tell them
 
-abbrev fourth : List ℕ → ℕ
-fourth (a ∷ b ∷ c ∷ d ∷ rest) = d
-fourth _ = 0
+abbrev telling : List ℕ → ℕ
+telling (a ∷ b ∷ c ∷ d ∷ rest) = c * 256 + d
+telling _ = 0
 
-abbrev extension_by : ℕ → Extension
-extension_by n =
-    if n == 99 then Zicsr
-    else (if n == 102 then Zifencei else (if n == 97 then Zba else (if n == 98 then Zbb else Zbs)))
+abbrev fifth : List ℕ → ℕ
+fifth (a ∷ b ∷ c ∷ d ∷ e ∷ rest) = e
+fifth _ = 0
 
-extension_by-is : (e : Extension) (xs : List ℕ) → extension_by (fourth (named e ++ xs)) ≡ e
+abbrev extension_by : ℕ → ℕ → Extension
+extension_by n m =
+    if n == 26979 then (if m == 115 then Zicsr else Zicond)
+    else (if n == 26982 then Zifencei
+    else (if n == 25185 then Zba
+    else (if n == 25186 then Zbb
+    else (if n == 25187 then Zbc else (if n == 25195 then Zbkb else Zbs)))))
+
+extension_by-is : (e : Extension) (xs : List ℕ) → extension_by (telling (named e ++ xs)) (fifth (named e ++ xs)) ≡ e
 extension_by-is Zicsr xs = refl
 extension_by-is Zifencei xs = refl
 extension_by-is Zba xs = refl
 extension_by-is Zbb xs = refl
 extension_by-is Zbs xs = refl
+extension_by-is Zbc xs = refl
+extension_by-is Zbkb xs = refl
+extension_by-is Zicond xs = refl
 
 behind_name : (e : Extension) (xs ys : List ℕ) → named e ++ xs ≡ named e ++ ys → xs ≡ ys
 behind_name Zicsr xs ys same = ap (drop 6) same
@@ -34,10 +44,13 @@ behind_name Zifencei xs ys same = ap (drop 9) same
 behind_name Zba xs ys same = ap (drop 4) same
 behind_name Zbb xs ys same = ap (drop 4) same
 behind_name Zbs xs ys same = ap (drop 4) same
+behind_name Zbc xs ys same = ap (drop 4) same
+behind_name Zbkb xs ys same = ap (drop 5) same
+behind_name Zicond xs ys same = ap (drop 7) same
 
 same_extension : (e e' : Extension) (xs ys : List ℕ) → named e ++ xs ≡ named e' ++ ys → (e ≡ e') × (xs ≡ ys)
 same_extension e e' xs ys same =
-    let one : e ≡ e' = sym (extension_by-is e xs) ∙ ap (λ l. extension_by (fourth l)) same ∙ extension_by-is e' ys in
+    let one : e ≡ e' = sym (extension_by-is e xs) ∙ ap (λ l. extension_by (telling l) (fifth l)) same ∙ extension_by-is e' ys in
     (one, behind_name e' xs ys (subst (λ x. named x ++ xs ≡ named e' ++ ys) one same))
 
 some_byte : (e : Extension) (xs : List ℕ) → first (named e ++ xs) ≡ 95
@@ -46,6 +59,9 @@ some_byte Zifencei xs = refl
 some_byte Zba xs = refl
 some_byte Zbb xs = refl
 some_byte Zbs xs = refl
+some_byte Zbc xs = refl
+some_byte Zbkb xs = refl
+some_byte Zicond xs = refl
 
 not_empty : (e : Extension) (xs : List ℕ) → [] ≡ named e ++ xs → ⊥
 not_empty e xs empty = omega (arith, ap first empty, some_byte e xs)

@@ -3,7 +3,7 @@
 use Rattle.std.specs.Prelude.{ℕ, ◌≡◌, List, [], ◌∷◌, ◌++◌, codes, Bool, true, false, if◌then◌else◌, Option, Some, None}
 use Rattle.rrs_words.specs.declared.csrs.HartProfile.{HartProfile}
 use Rattle.rrs_run_commands.specs.declared.architectures.Extension.{Extension}
-use Rattle.rrs_run_commands.specs.declared.architectures.Extension.TheVariants.{Zicsr, Zifencei, Zba, Zbb, Zbs}
+use Rattle.rrs_run_commands.specs.declared.architectures.Extension.TheVariants.{Zicsr, Zifencei, Zba, Zbb, Zbs, Zbc, Zbkb, Zicond}
 use Rattle.rrs_run_commands.specs.declared.architectures.Extensions.{Extensions}
 
 -- ---- extensions, each behind an underscore
@@ -14,6 +14,9 @@ named Zifencei = codes "_zifencei"
 named Zba = codes "_zba"
 named Zbb = codes "_zbb"
 named Zbs = codes "_zbs"
+named Zbc = codes "_zbc"
+named Zbkb = codes "_zbkb"
+named Zicond = codes "_zicond"
 
 -- several, one behind the other
 abbrev pub all_named : List Extension → List ℕ
@@ -29,6 +32,9 @@ no_extensions = record {
   zba = false;
   zbb = false;
   zbs = false;
+  zbc = false;
+  zbkb = false;
+  zicond = false;
 }
 
 -- one more, which is not among them
@@ -38,6 +44,9 @@ with_one x Zifencei = if x.fence_i then None else Some (record x { fence_i = tru
 with_one x Zba = if x.zba then None else Some (record x { zba = true })
 with_one x Zbb = if x.zbb then None else Some (record x { zbb = true })
 with_one x Zbs = if x.zbs then None else Some (record x { zbs = true })
+with_one x Zbc = if x.zbc then None else Some (record x { zbc = true })
+with_one x Zbkb = if x.zbkb then None else Some (record x { zbkb = true })
+with_one x Zicond = if x.zicond then None else Some (record x { zicond = true })
 
 abbrev pub with_next : Option Extensions → Extension → Option Extensions
 with_next None e = None
@@ -66,6 +75,9 @@ march_hart atomics compressed x = record {
   zba = x.zba;
   zbb = x.zbb;
   zbs = x.zbs;
+  zbc = x.zbc;
+  zbkb = x.zbkb;
+  zicond = x.zicond;
 }
 
 -- the word is the name of the architecture of this hart

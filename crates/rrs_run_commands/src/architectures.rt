@@ -21,6 +21,12 @@ enum Extension {
     Zbb,
     /// Single bits.
     Zbs,
+    /// Products without carries.
+    Zbc,
+    /// Bit manipulation for cryptography.
+    Zbkb,
+    /// Conditional zeros.
+    Zicond,
 }
 
 /// Which of them there are.
@@ -31,6 +37,9 @@ struct Extensions {
     zba: bool,
     zbb: bool,
     zbs: bool,
+    zbc: bool,
+    zbkb: bool,
+    zicond: bool,
 }
 
 /// The extension whose name a text begins with, and what stands behind it.
@@ -54,6 +63,15 @@ fn split_extension(text: &str) -> Option<(Extension, &str)>
     if let Some(rest) = text.strip_prefix("_zbs") {
         return Some((Extension::Zbs, rest));
     }
+    if let Some(rest) = text.strip_prefix("_zbc") {
+        return Some((Extension::Zbc, rest));
+    }
+    if let Some(rest) = text.strip_prefix("_zbkb") {
+        return Some((Extension::Zbkb, rest));
+    }
+    if let Some(rest) = text.strip_prefix("_zicond") {
+        return Some((Extension::Zicond, rest));
+    }
     None
 }
 
@@ -73,6 +91,15 @@ fn with_one(known: Extensions, extension: Extension) -> Option<Extensions>
         Extension::Zba if !known.zba => Some(Extensions { zba: true, ..known }),
         Extension::Zbb if !known.zbb => Some(Extensions { zbb: true, ..known }),
         Extension::Zbs if !known.zbs => Some(Extensions { zbs: true, ..known }),
+        Extension::Zbc if !known.zbc => Some(Extensions { zbc: true, ..known }),
+        Extension::Zbkb if !known.zbkb => Some(Extensions {
+            zbkb: true,
+            ..known
+        }),
+        Extension::Zicond if !known.zicond => Some(Extensions {
+            zicond: true,
+            ..known
+        }),
         _ => None,
     }
 }
@@ -109,7 +136,8 @@ fn split_letter<'a>(text: &'a str, name: &str) -> (bool, &'a str)
 }
 
 /// The hart of the architecture that a word names, as gcc's `-march` does: RV32IM, with A and C or
-/// without, and behind these Zicsr, Zifencei, Zba, Zbb and Zbs in any order, each once at most.
+/// without, and behind these Zicsr, Zifencei, Zba, Zbb, Zbs, Zbc, Zbkb and Zicond in any order, each
+/// once at most.
 pub fn march_of(word: &str) -> Option<HartProfile>
     ensures { MatchOption result ((profile : Profile) → IsMarch word.now profile → ⊥)
         (IsMarch word.now) }
@@ -123,6 +151,9 @@ pub fn march_of(word: &str) -> Option<HartProfile>
         zba: false,
         zbb: false,
         zbs: false,
+        zbc: false,
+        zbkb: false,
+        zicond: false,
     };
     let Some(extensions) = extensions_of(rest, none) else {
         return None;
@@ -135,5 +166,8 @@ pub fn march_of(word: &str) -> Option<HartProfile>
         zba: extensions.zba,
         zbb: extensions.zbb,
         zbs: extensions.zbs,
+        zbc: extensions.zbc,
+        zbkb: extensions.zbkb,
+        zicond: extensions.zicond,
     })
 }

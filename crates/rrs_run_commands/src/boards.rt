@@ -29,8 +29,9 @@ fn refused<'a>(path: &'a str, file: &[u8], error: BoardError, bytes: u64) -> Ref
     }
 }
 
-/// The layers of the hart of a board: those of `--march`, or else extension A, `fence.i`, Zba, Zbb
-/// and Zbs, and compressed code where the flags of an executable have it. Misaligned accesses are exceptions.
+/// The layers of the hart of a board: those of `--march`, or else extension A, `fence.i`, Zba to
+/// Zicond, and compressed code where the flags of an executable have it. Misaligned accesses are
+/// exceptions.
 pub(crate) fn layers_of(request: Request<'_>, file: &[u8]) -> HartProfile {
     match request.march {
         Some(profile) => HartProfile {
@@ -45,6 +46,9 @@ pub(crate) fn layers_of(request: Request<'_>, file: &[u8]) -> HartProfile {
             zba: true,
             zbb: true,
             zbs: true,
+            zbc: true,
+            zbkb: true,
+            zicond: true,
         },
     }
 }

@@ -11,7 +11,7 @@ use Rattle.rrs_lib.specs.Machine.{State, Outcome, reg}
 use Rattle.rrs_lib.specs.Steps.{StepAnswer, next_word, cleared}
 use Rattle.rrs_lib.specs.Accesses.{Access, AccessesOf, fetch}
 use Rattle.rrs_words.specs.declared.bits.BitOperand.{BitOperand}
-use Rattle.rrs_words.specs.declared.bits.BitOperand.TheVariants.{Register}
+use Rattle.rrs_words.specs.declared.bits.BitOperand.TheVariants.{Register, NotX0}
 use Rattle.rrs_words.specs.BitInstructions.{bit_table}
 use Rattle.rrs_words.specs.declared.layers.LayerInstruction.{LayerInstruction}
 use Rattle.rrs_words.specs.declared.layers.LayerInstruction.TheVariants.{System, Atomic, Bits}
@@ -107,6 +107,7 @@ first_of_layer (Bits i) = i.fields.rs1
 -- the number in the place of rs2, where it is that of a register
 abbrev pub second_of_bits : BitOperand → ℕ → ℕ
 second_of_bits Register n = n
+second_of_bits NotX0 n = n
 second_of_bits _ n = 0
 
 abbrev pub second_of_layer : LayerInstruction → ℕ

@@ -76,7 +76,7 @@ fn sources_of_layer(instruction: &LayerInstruction) -> (usize, usize)
         LayerInstruction::System(_) => (0, 0),
         LayerInstruction::Atomic(atomic) => (atomic.fields.rs1, atomic.fields.rs2),
         LayerInstruction::Bits(bits) => match bits.row.operand() {
-            BitOperand::Register => (bits.fields.rs1, bits.fields.rs2),
+            BitOperand::Register | BitOperand::NotX0 => (bits.fields.rs1, bits.fields.rs2),
             _ => (bits.fields.rs1, 0),
         },
     }

@@ -1,5 +1,5 @@
 -- The places of a word of extension A, and that it is decoded to its instruction.
-use Rattle.std.proofs.Common.{◌≡◌, ℕ, ◌+◌, ◌*◌, ◌/◌, ◌%◌, ◌^◌, ◌<◌, Option, Some, None, IfSome, IfNone, sym, ◌∙◌, ap, arith}
+use Rattle.std.proofs.Common.{◌≡◌, ℕ, ◌%◌, ◌^◌, Option, Some, None, IfSome, IfNone, sym, ◌∙◌, ap, arith}
 use Rattle.rrs_instruction.specs.declared.instruction_formats.RType.{RType}
 use Rattle.rrs_instruction.specs.Encodings.{R, encode}
 use Rattle.rrs_instruction.proofs.Places.{places-R}

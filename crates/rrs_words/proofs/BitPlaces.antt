@@ -1,11 +1,12 @@
--- The places of a word of Zba, Zbb or Zbs, and that it is one instruction at most.
+-- The places of a word of Zba to Zicond, and that it is one instruction at most.
 use Rattle.std.proofs.Common.{◌≡◌, ℕ, ◌+◌, ◌*◌, ◌%◌, ◌==◌, ◌<◌, ◌⊎◌, inl, inr, if◌then◌else◌, Option, Some, None, IfSome, IfNone, refl, sym, subst, ap, ◌∙◌, arith}
+use Rattle.std.proofs.lemmas.Bool.{ne_eqb}
 use Rattle.std.proofs.lemmas.Option.{same_Some}
 use Rattle.rrs_instruction.specs.declared.instruction_formats.RType.{RType}
 use Rattle.rrs_instruction.specs.Encodings.{Fields, R, encode}
 use Rattle.rrs_instruction.proofs.Places.{places-R, same_fields_of}
 use Rattle.rrs_words.specs.declared.bits.BitRow.{BitRow}
-use Rattle.rrs_words.specs.declared.bits.BitRow.TheVariants.{Sh1add, Sh2add, Sh3add, Andn, Orn, Xnor, Clz, Ctz, Cpop, Max, Maxu, Min, Minu, SextB, SextH, ZextH, Rol, Ror, Rori, OrcB, Rev8, Bclr, Bclri, Bext, Bexti, Binv, Binvi, Bset, Bseti}
+use Rattle.rrs_words.specs.declared.bits.BitRow.TheVariants.{Sh1add, Sh2add, Sh3add, Andn, Orn, Xnor, Clz, Ctz, Cpop, Max, Maxu, Min, Minu, SextB, SextH, ZextH, Rol, Ror, Rori, OrcB, Rev8, Bclr, Bclri, Bext, Bexti, Binv, Binvi, Bset, Bseti, Clmul, Clmulh, Clmulr, Pack, Packh, Brev8, Zip, Unzip, CzeroEqz, CzeroNez}
 use Rattle.rrs_words.specs.declared.bits.BitInstruction.{BitInstruction}
 use Rattle.rrs_words.specs.BitInstructions.{bit_table, IsOperand, HasBits, IsBits}
 
@@ -21,8 +22,8 @@ bit_decoded_again (Some x) w i is outside only =
 
 -- ---- the row of the fields, by funct7 and funct3 as one number
 
-abbrev on_registers : ℕ → Option BitRow
-on_registers key =
+abbrev on_registers : ℕ → ℕ → Option BitRow
+on_registers key n =
     if key == 130 then Some Sh1add
     else (if key == 132 then Some Sh2add
     else (if key == 134 then Some Sh3add
@@ -33,14 +34,20 @@ on_registers key =
     else (if key == 47 then Some Maxu
     else (if key == 44 then Some Min
     else (if key == 45 then Some Minu
-    else (if key == 36 then Some ZextH
+    else (if key == 36 then (if n == 0 then Some ZextH else Some Pack)
+    else (if key == 39 then Some Packh
+    else (if key == 41 then Some Clmul
+    else (if key == 43 then Some Clmulh
+    else (if key == 42 then Some Clmulr
+    else (if key == 61 then Some CzeroEqz
+    else (if key == 63 then Some CzeroNez
     else (if key == 385 then Some Rol
     else (if key == 389 then Some Ror
     else (if key == 289 then Some Bclr
     else (if key == 293 then Some Bext
     else (if key == 417 then Some Binv
     else (if key == 161 then Some Bset
-    else None))))))))))))))))
+    else None))))))))))))))))))))))
 
 abbrev counting : ℕ → Option BitRow
 counting n =
@@ -56,16 +63,18 @@ on_immediate key n =
     if key == 385 then counting n
     else (if key == 389 then Some Rori
     else (if key == 165 then Some OrcB
-    else (if key == 421 then Some Rev8
+    else (if key == 421 then (if n == 24 then Some Rev8 else (if n == 7 then Some Brev8 else None))
+    else (if key == 33 then (if n == 15 then Some Zip else None)
+    else (if key == 37 then (if n == 15 then Some Unzip else None)
     else (if key == 289 then Some Bclri
     else (if key == 293 then Some Bexti
     else (if key == 417 then Some Binvi
     else (if key == 161 then Some Bseti
-    else None)))))))
+    else None)))))))))
 
 abbrev row_at : ℕ → ℕ → ℕ → ℕ → Option BitRow
 row_at opcode funct7 funct3 n =
-    if opcode == 0x33 then on_registers (funct7 * 8 + funct3) else on_immediate (funct7 * 8 + funct3) n
+    if opcode == 0x33 then on_registers (funct7 * 8 + funct3) n else on_immediate (funct7 * 8 + funct3) n
 
 row_at-table : (row : BitRow) (n : ℕ) → IsOperand (bit_table row).operand n
     → row_at (bit_table row).opcode (bit_table row).funct7 (bit_table row).funct3 n ≡ Some row
@@ -74,6 +83,12 @@ row_at-table Ctz n is = ap counting is
 row_at-table Cpop n is = ap counting is
 row_at-table SextB n is = ap counting is
 row_at-table SextH n is = ap counting is
+row_at-table ZextH n is = ap (on_registers 36) is
+row_at-table Pack n is = rw (ne_eqb n 0 is) refl
+row_at-table Rev8 n is = ap (on_immediate 421) is
+row_at-table Brev8 n is = ap (on_immediate 421) is
+row_at-table Zip n is = ap (on_immediate 33) is
+row_at-table Unzip n is = ap (on_immediate 37) is
 row_at-table _ n is = refl
 
 row_at-is : (row : BitRow) (f : RType) → HasBits row f → row_at (bit_table row).opcode f.funct7 f.funct3 f.rs2 ≡ Some row
@@ -94,6 +109,9 @@ opcodes Bclri = inr refl
 opcodes Bexti = inr refl
 opcodes Binvi = inr refl
 opcodes Bseti = inr refl
+opcodes Brev8 = inr refl
+opcodes Zip = inr refl
+opcodes Unzip = inr refl
 opcodes _ = inl refl
 
 small_one : (n : ℕ) → (n ≡ 0x33) ⊎ (n ≡ 0x13) → n < 128

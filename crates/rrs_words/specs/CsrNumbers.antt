@@ -30,6 +30,9 @@ no_layers = record {
   zba = false;
   zbb = false;
   zbs = false;
+  zbc = false;
+  zbkb = false;
+  zicond = false;
 }
 
 -- the layers of a hart that has fence.i, and extension A or not

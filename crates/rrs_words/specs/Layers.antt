@@ -1,10 +1,11 @@
 -- The instructions of the layers: those that are no row of the kit. An instruction on a CSR, mret,
--- wfi or fence.i, one of extension A, or one of Zba, Zbb and Zbs. Each reader of words or of texts asks these.
+-- wfi or fence.i, one of extension A, or one of Zba to Zicond. Each reader of words or of texts
+-- asks these.
 use Rattle.std.specs.Prelude.{ℕ, List}
 use Rattle.rrs_words.specs.declared.atomics.AtomicRow.{AtomicRow}
 use Rattle.rrs_words.specs.declared.atomics.AtomicRow.TheVariants.{LrW, ScW, AmoSwap, AmoAdd, AmoXor, AmoAnd, AmoOr, AmoMin, AmoMax, AmoMinu, AmoMaxu}
 use Rattle.rrs_words.specs.declared.bits.BitRow.{BitRow}
-use Rattle.rrs_words.specs.declared.bits.BitRow.TheVariants.{Sh1add, Sh2add, Sh3add, Andn, Orn, Xnor, Clz, Ctz, Cpop, Max, Maxu, Min, Minu, SextB, SextH, ZextH, Rol, Ror, Rori, OrcB, Rev8, Bclr, Bclri, Bext, Bexti, Binv, Binvi, Bset, Bseti}
+use Rattle.rrs_words.specs.declared.bits.BitRow.TheVariants.{Sh1add, Sh2add, Sh3add, Andn, Orn, Xnor, Clz, Ctz, Cpop, Max, Maxu, Min, Minu, SextB, SextH, ZextH, Rol, Ror, Rori, OrcB, Rev8, Bclr, Bclri, Bext, Bexti, Binv, Binvi, Bset, Bseti, Clmul, Clmulh, Clmulr, Pack, Packh, Brev8, Zip, Unzip, CzeroEqz, CzeroNez}
 use Rattle.rrs_words.specs.declared.instructions.SystemRow.{SystemRow}
 use Rattle.rrs_words.specs.declared.instructions.SystemRow.TheVariants.{Csrrw, Csrrs, Csrrc, Csrrwi, Csrrsi, Csrrci, Mret, Wfi, FenceI}
 use Rattle.rrs_words.specs.declared.layers.LayerInstruction.{LayerInstruction}
@@ -83,3 +84,13 @@ bit_number Binv = 94
 bit_number Binvi = 95
 bit_number Bset = 96
 bit_number Bseti = 97
+bit_number Clmul = 98
+bit_number Clmulh = 99
+bit_number Clmulr = 100
+bit_number Pack = 101
+bit_number Packh = 102
+bit_number Brev8 = 103
+bit_number Zip = 104
+bit_number Unzip = 105
+bit_number CzeroEqz = 106
+bit_number CzeroNez = 107

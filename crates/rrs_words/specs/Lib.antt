@@ -1,5 +1,5 @@
 -- The words that the 48 rows leave out: the instructions on CSRs, mret, wfi and fence.i, the
--- numbers and names of the CSRs, the instructions of extension A, those of Zba, Zbb and Zbs, the
+-- numbers and names of the CSRs, the instructions of extension A, those of Zba to Zicond, the
 -- compressed ones, and the texts.
 pub mod CsrNumbers
 pub mod SystemInstructions

@@ -1,4 +1,4 @@
-//! The texts of the instructions of Zba, Zbb and Zbs.
+//! The texts of the instructions of Zba to Zicond.
 //!
 //! | Instructions | Text |
 //! |---|---|
@@ -18,7 +18,7 @@ fn push_operand(text: &mut LayerText, operand: BitOperand, rs2: usize)
     ensures { text.new.bytes ≡ text.old.bytes ++ bit_operand operand rs2 }
 {
     match operand {
-        BitOperand::Register => push_number(text, ", x", rs2),
+        BitOperand::Register | BitOperand::NotX0 => push_number(text, ", x", rs2),
         BitOperand::Amount => push_number(text, ", ", rs2),
         BitOperand::Fixed(_) => {}
     }

@@ -1,5 +1,5 @@
-//! The instructions of Zba, Zbb and Zbs: sums of shifted numbers, operations on bits and bytes, and
-//! those on one bit.
+//! The instructions of Zba, Zbb, Zbs, Zbc, Zbkb and Zicond: sums of shifted numbers, operations on
+//! bits and bytes, those on one bit, products without carries, packed halves, and conditional zeros.
 
 ghost use Rattle.std.specs.Prelude.{◌≡◌, ◌+◌, ◌<◌, ◌≤◌, ◌^◌, IfSome, IfNone, length};
 ghost use Rattle.rrs_instruction.specs.declared.instruction_formats.RType.{RType as RFields};
@@ -8,7 +8,7 @@ ghost use Rattle.rrs_words.specs.Layers.{bit_number};
 
 use rrs_lib::instruction_formats::RType;
 
-/// An instruction of Zba, Zbb or Zbs.
+/// An instruction of one of these extensions.
 #[derive(Debug, PartialEq, Clone, Copy)]
 pub enum BitRow {
     /// `sh1add`: rs1 by 2, and rs2.
@@ -69,6 +69,26 @@ pub enum BitRow {
     Bset,
     /// `bseti`: the bit at an amount set.
     Bseti,
+    /// `clmul`: the lower half of the product without carries.
+    Clmul,
+    /// `clmulh`: the upper half of the product without carries.
+    Clmulh,
+    /// `clmulr`: bits 31 to 62 of the product without carries.
+    Clmulr,
+    /// `pack`: the lower half-words of rs1 and, above it, of rs2, which is not x0.
+    Pack,
+    /// `packh`: the lowest bytes of rs1 and, above it, of rs2.
+    Packh,
+    /// `brev8`: the bits of each byte in the other order.
+    Brev8,
+    /// `zip`: the bits of both half-words in turn.
+    Zip,
+    /// `unzip`: the bits at even places, and above them those at odd places.
+    Unzip,
+    /// `czero.eqz`: rs1, or 0 where rs2 is 0.
+    CzeroEqz,
+    /// `czero.nez`: rs1, or 0 where rs2 is not 0.
+    CzeroNez,
 }
 
 /// The extension that an instruction is of.
@@ -80,6 +100,14 @@ pub enum BitExtension {
     Zbb,
     /// Single bits.
     Zbs,
+    /// Products without carries.
+    Zbc,
+    /// Bit manipulation for cryptography.
+    Zbkb,
+    /// Instructions that Zbb and Zbkb both have.
+    ZbbZbkb,
+    /// Conditional zeros.
+    Zicond,
 }
 
 /// What stands in the place of rs2.
@@ -87,6 +115,8 @@ pub enum BitExtension {
 pub enum BitOperand {
     /// The number of a register.
     Register,
+    /// The number of a register but x0, with which the word is that of another row.
+    NotX0,
     /// A shift amount.
     Amount,
     /// A number that tells the instruction.
@@ -117,6 +147,18 @@ impl BitRow {
             | BitRow::Binvi
             | BitRow::Bset
             | BitRow::Bseti => BitExtension::Zbs,
+            BitRow::Clmul | BitRow::Clmulh | BitRow::Clmulr => BitExtension::Zbc,
+            BitRow::Pack | BitRow::Packh | BitRow::Brev8 | BitRow::Zip | BitRow::Unzip =>
+                BitExtension::Zbkb,
+            BitRow::Andn
+            | BitRow::Orn
+            | BitRow::Xnor
+            | BitRow::ZextH
+            | BitRow::Rol
+            | BitRow::Ror
+            | BitRow::Rori
+            | BitRow::Rev8 => BitExtension::ZbbZbkb,
+            BitRow::CzeroEqz | BitRow::CzeroNez => BitExtension::Zicond,
             _ => BitExtension::Zbb,
         }
     }
@@ -133,7 +175,9 @@ impl BitRow {
             BitRow::SextH => BitOperand::Fixed(5),
             BitRow::Rori | BitRow::Bclri | BitRow::Bexti | BitRow::Binvi | BitRow::Bseti =>
                 BitOperand::Amount,
-            BitRow::OrcB => BitOperand::Fixed(7),
+            BitRow::OrcB | BitRow::Brev8 => BitOperand::Fixed(7),
+            BitRow::Zip | BitRow::Unzip => BitOperand::Fixed(15),
+            BitRow::Pack => BitOperand::NotX0,
             BitRow::Rev8 => BitOperand::Fixed(24),
             _ => BitOperand::Register,
         }
@@ -145,12 +189,12 @@ impl BitRow {
         ensures low { result < 2 ^ 7 }
     {
         match self.operand() {
-            BitOperand::Register => 0x33,
+            BitOperand::Register | BitOperand::NotX0 => 0x33,
             _ => { if self == BitRow::ZextH { 0x33 } else { 0x13 } }
         }
     }
 
-    /// Its number, 69 to 97: those of these rows follow those of [AtomicRow].
+    /// Its number, 69 to 107: those of these rows follow those of [AtomicRow].
     ///
     /// [AtomicRow]: crate::AtomicRow
     pub fn number(self) -> u32
@@ -186,13 +230,23 @@ impl BitRow {
             BitRow::Binvi => 95,
             BitRow::Bset => 96,
             BitRow::Bseti => 97,
+            BitRow::Clmul => 98,
+            BitRow::Clmulh => 99,
+            BitRow::Clmulr => 100,
+            BitRow::Pack => 101,
+            BitRow::Packh => 102,
+            BitRow::Brev8 => 103,
+            BitRow::Zip => 104,
+            BitRow::Unzip => 105,
+            BitRow::CzeroEqz => 106,
+            BitRow::CzeroNez => 107,
         }
     }
 
     /// Its name.
     pub fn name(self) -> &'static str
         ensures name { result.now ≡ (bit_table self).name }
-        ensures length { length result.now ≤ 6 }
+        ensures length { length result.now ≤ 9 }
     {
         match self {
             BitRow::Sh1add => "sh1add",
@@ -224,6 +278,16 @@ impl BitRow {
             BitRow::Binvi => "binvi",
             BitRow::Bset => "bset",
             BitRow::Bseti => "bseti",
+            BitRow::Clmul => "clmul",
+            BitRow::Clmulh => "clmulh",
+            BitRow::Clmulr => "clmulr",
+            BitRow::Pack => "pack",
+            BitRow::Packh => "packh",
+            BitRow::Brev8 => "brev8",
+            BitRow::Zip => "zip",
+            BitRow::Unzip => "unzip",
+            BitRow::CzeroEqz => "czero.eqz",
+            BitRow::CzeroNez => "czero.nez",
         }
     }
 }
@@ -246,6 +310,13 @@ fn row_on_registers(fields: &RType) -> Option<BitRow>
         (0x05, 4, _) => Some(BitRow::Min),
         (0x05, 5, _) => Some(BitRow::Minu),
         (0x04, 4, 0) => Some(BitRow::ZextH),
+        (0x04, 4, _) => Some(BitRow::Pack),
+        (0x04, 7, _) => Some(BitRow::Packh),
+        (0x05, 1, _) => Some(BitRow::Clmul),
+        (0x05, 3, _) => Some(BitRow::Clmulh),
+        (0x05, 2, _) => Some(BitRow::Clmulr),
+        (0x07, 5, _) => Some(BitRow::CzeroEqz),
+        (0x07, 7, _) => Some(BitRow::CzeroNez),
         (0x30, 1, _) => Some(BitRow::Rol),
         (0x30, 5, _) => Some(BitRow::Ror),
         (0x24, 1, _) => Some(BitRow::Bclr),
@@ -271,6 +342,9 @@ fn row_on_immediate(fields: &RType) -> Option<BitRow>
         (0x30, 5, _) => Some(BitRow::Rori),
         (0x14, 5, 7) => Some(BitRow::OrcB),
         (0x34, 5, 24) => Some(BitRow::Rev8),
+        (0x34, 5, 7) => Some(BitRow::Brev8),
+        (0x04, 1, 15) => Some(BitRow::Zip),
+        (0x04, 5, 15) => Some(BitRow::Unzip),
         (0x24, 1, _) => Some(BitRow::Bclri),
         (0x24, 5, _) => Some(BitRow::Bexti),
         (0x34, 1, _) => Some(BitRow::Binvi),
@@ -279,7 +353,7 @@ fn row_on_immediate(fields: &RType) -> Option<BitRow>
     }
 }
 
-/// The instruction of Zba, Zbb or Zbs that a word is, or `None`.
+/// The instruction of Zba to Zicond that a word is, or `None`.
 ///
 /// The clauses: the word is the instruction that is returned (`decoded`), and no other (`only`); at
 /// `None` it is none (`outside`).

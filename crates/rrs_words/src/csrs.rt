@@ -24,6 +24,12 @@ pub struct HartProfile {
     pub zbb: bool,
     /// Zbs: operations on one bit.
     pub zbs: bool,
+    /// Zbc: products without carries.
+    pub zbc: bool,
+    /// Zbkb: bit manipulation for cryptography.
+    pub zbkb: bool,
+    /// Zicond: conditional zeros.
+    pub zicond: bool,
 }
 
 impl HartProfile {
@@ -39,6 +45,9 @@ impl HartProfile {
             zba: false,
             zbb: false,
             zbs: false,
+            zbc: false,
+            zbkb: false,
+            zicond: false,
         }
     }
 }

@@ -1,5 +1,5 @@
 //! From the instructions that the 48 rows leave out to words, and so from those of extension A
-//! and of Zba, Zbb and Zbs.
+//! and of Zba to Zicond.
 
 ghost use Rattle.std.specs.Prelude.{◌≡◌, ◌↔◌, ◌<◌, ◌^◌, ℕ, Some};
 ghost use Rattle.rrs_words.specs.SystemInstructions.{system_table, IsSystem};
@@ -83,7 +83,7 @@ pub fn encode_atomic(instruction: &AtomicInstruction) -> Option<u32>
     }
 }
 
-/// The word that the instruction of Zba, Zbb or Zbs is, or `None` where no word is.
+/// The word that the instruction of Zba to Zicond is, or `None` where no word is.
 ///
 /// No word is where a field is out of its range, where funct7 or funct3 is not the row's, and where
 /// a number in the place of rs2 is not the row's. What `decode_bits` returned has the word that was

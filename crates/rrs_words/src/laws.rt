@@ -101,7 +101,7 @@ pub fn atomic_encode_of_decode(word: u32) -> Option<(AtomicInstruction, Option<u
     Some((atomic, encoded))
 }
 
-/// The word of an instruction of Zba, Zbb or Zbs, and what it is decoded to.
+/// The word of an instruction of Zba to Zicond, and what it is decoded to.
 ///
 /// The answer is `None` exactly where no word is the instruction. Otherwise it is the word of the
 /// instruction (`word`), and what `decode_bits` returned for it, which is the instruction again
@@ -117,7 +117,7 @@ pub fn bits_decode_of_encode(instruction: &BitInstruction) -> Option<(u32, Optio
     Some((word, decode_bits(word)))
 }
 
-/// The instruction of Zba, Zbb or Zbs that a word is, and what it is encoded to.
+/// The instruction of Zba to Zicond that a word is, and what it is encoded to.
 ///
 /// The answer is `None` exactly for a word that is none of the 29. Otherwise it is the instruction
 /// of the word (`instruction`), and what `encode_bits` returned for it, which is the word again

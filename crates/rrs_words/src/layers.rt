@@ -19,7 +19,7 @@ pub enum LayerInstruction {
     System(SystemInstruction),
     /// One of extension A.
     Atomic(AtomicInstruction),
-    /// One of Zba, Zbb or Zbs.
+    /// One of Zba to Zicond.
     Bits(BitInstruction),
 }
 

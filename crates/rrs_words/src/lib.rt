@@ -1,9 +1,9 @@
 //! The words that are no row of the kit: the instructions on CSRs, `mret`, `wfi` and `fence.i`,
-//! those of extension A, and those of Zba, Zbb and Zbs.
+//! those of extension A, and those of Zba to Zicond.
 //!
 //! [decode_system] gives the instruction of a word, [encode_system] the word of an instruction, and
 //! [system_text] its text; [decode_atomic] and [encode_atomic] do so for extension A, and [decode_bits] and
-//! [encode_bits] for Zba, Zbb and Zbs. [laws] has
+//! [encode_bits] for Zba to Zicond. [laws] has
 //! encoding and decoding, the one after the other. [Csr::at] is the register that the number of a
 //! CSR names on a hart with a [Profile], and [csr_named] is the number of a name. What the
 //! instructions are is written in `specs/SystemInstructions.antt` and

@@ -60,7 +60,7 @@ static ROWS: [(&str, &[u32]); 48] = [
 ];
 
 /// A line of each instruction of a layer, and its word.
-static LAYERS: [(&str, &[u32]); 49] = [
+static LAYERS: [(&str, &[u32]); 59] = [
     ("csrrw a0, mstatus, a1", &[0x30059573]),
     ("csrrs a0, mepc, a1", &[0x3415a573]),
     ("csrrc ra, 4095, sp", &[0xfff130f3]),
@@ -110,6 +110,16 @@ static LAYERS: [(&str, &[u32]); 49] = [
     ("binvi a0, a1, 5", &[0x68559513]),
     ("bset a0, a1, a2", &[0x28c59533]),
     ("bseti a0, a1, 5", &[0x28559513]),
+    ("clmul a0, a1, a2", &[0x0ac59533]),
+    ("clmulh a0, a1, a2", &[0x0ac5b533]),
+    ("clmulr a0, a1, a2", &[0x0ac5a533]),
+    ("pack a0, a1, a2", &[0x08c5c533]),
+    ("packh a0, a1, a2", &[0x08c5f533]),
+    ("brev8 a0, a1", &[0x6875d513]),
+    ("zip a0, a1", &[0x08f59513]),
+    ("unzip a0, a1", &[0x08f5d513]),
+    ("czero.eqz a0, a1, a2", &[0x0ec5d533]),
+    ("czero.nez a0, a1, a2", &[0x0ec5f533]),
 ];
 
 /// Pseudo-instructions, and how operands can be written.

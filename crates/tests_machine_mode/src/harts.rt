@@ -16,6 +16,9 @@ const ALL: HartProfile = HartProfile {
     zba: true,
     zbb: true,
     zbs: true,
+    zbc: true,
+    zbkb: true,
+    zicond: true,
 };
 
 /// The hart of the kit.
@@ -27,6 +30,9 @@ const NONE: HartProfile = HartProfile {
     zba: false,
     zbb: false,
     zbs: false,
+    zbc: false,
+    zbkb: false,
+    zicond: false,
 };
 
 /// A hart that has all layers and the compressed instructions.

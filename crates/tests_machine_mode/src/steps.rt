@@ -26,6 +26,9 @@ pub const PLAIN: HartProfile = HartProfile {
     zba: false,
     zbb: false,
     zbs: false,
+    zbc: false,
+    zbkb: false,
+    zicond: false,
 };
 
 /// Where the word of a step stands.

@@ -1,5 +1,5 @@
 -- A word that is no instruction of extension A is not this one.
-use Rattle.std.proofs.Common.{rules, ◌≡◌, Some, None, sym, subst, ◌∙◌}
+use Rattle.std.proofs.Common.{rules, ◌≡◌, None, sym, subst, ◌∙◌}
 use Rattle.std.proofs.lemmas.Option.{none-some}
 use Rattle.rrs_words.specs.AtomicInstructions.{IsAtomic}
 use Rattle.rrs_words.proofs.encoding.encode_atomic.Goals as goal

@@ -1,9 +1,15 @@
--- A word that is no instruction of Zba, Zbb or Zbs is not this one.
-use Rattle.std.proofs.Common.{rules, ◌≡◌, ℕ, Some, None, sym, subst, ap, ◌∙◌}
+-- A word that is no instruction of Zba to Zicond is not this one.
+use Rattle.std.proofs.Common.{rules, ◌≡◌, Bool, true, false, ◌&&◌, Some, None, refl, sym, subst, ap, ◌∙◌}
+use denote.Enum.Bare.{same_true}
 use Rattle.std.proofs.lemmas.Option.{none-some, same_Some}
 use Rattle.rrs_instruction.specs.Encodings.{R, encode}
+use Rattle.rrs_words.specs.contracts.bits.BitRow.{the_type}
 use Rattle.rrs_words.specs.BitInstructions.{bit_table, IsBits}
 use Rattle.rrs_words.proofs.encoding.encode_bits.Goals as goal
+
+first_of : (a b : Bool) → (a && b) ≡ true → a ≡ true
+first_of true b both = refl
+first_of false b both = both
 
 pub returns-in_err-bits : goal.returns-in_err-bits
 returns-in_err-bits c w =
@@ -24,7 +30,7 @@ returns-then-eq c w =
     let word : encode (bit_table row).opcode (R f) ≡ c.word_of-word.result =
     ap (λ n. encode n (R f)) (sym c.opcode.ensures.opcode) ∙ sym c.word_of-word.ensures in
     let x = c.in_ok-bits.bits in
-    let one_row : x.row ≡ row = search rules in
+    let one_row : x.row ≡ row = same_true the_type tt _ _ (first_of _ _ (sym c.eq.ensures ∙ c.if-eq.true)) in
     let same : x.fields ≡ f = search rules in
     let read : IsBits c.word_of-word.result row f =
     subst (λ y. IsBits c.word_of-word.result y f) one_row (subst (λ y. IsBits c.word_of-word.result x.row y) same c.in_ok-bits.ensures.decoded) in (

@@ -1,5 +1,5 @@
 -- A word that none of them decodes is an instruction of none.
-use Rattle.std.proofs.Common.{◌≡◌, ℕ}
+use Rattle.std.proofs.Common.{ℕ}
 use Rattle.rrs_instruction.specs.declared.instruction_formats.IType.{IType}
 use Rattle.rrs_instruction.specs.declared.instruction_formats.RType.{RType}
 use Rattle.rrs_words.specs.declared.instructions.SystemRow.{SystemRow}
