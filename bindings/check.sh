@@ -88,7 +88,7 @@ gather_questions() {
     count=$((${count%%:*} - 1))
     head -n "$count" "$replay/stdin" | cat - "$here/answers/questions" >"$room/questions" &&
         head -n "$count" "$replay/stdout" | cat - "$here/answers/answers" >"$room/answers" &&
-        [ "$count" = 3402 ] && [ "$(wc -l <"$room/questions")" = 9269 ]
+        [ "$count" = 3402 ] && [ "$(wc -l <"$room/questions")" = 9319 ]
 }
 
 # answers COMMAND ..: it answers the questions as is stored, and without a word on standard error

@@ -24,7 +24,8 @@ open import rrs-lib.Declared using
 open import rrs-lib.Machine
 open import rrs-lib.Steps
 open import machine-words.Declared using
-  ( HartProfile; atomics·; misaligned·; fence-i·; compressed·; zba·; zbb·; zbs·
+  ( HartProfile; atomics·; misaligned·; fence-i·; compressed·; zba·; zbb·; zbs·; zbc·; zbkb·
+  ; zicond·
   ; Mstatus; Mie; Mtvec; Mscratch; Mepc; Mcause; Mtval; Mip )
 open import machine-mode.Declared using
   ( CsrFile; Inputs; MachineAnswer; Retired; Waiting; Raised; Interrupted
@@ -196,11 +197,13 @@ traced (suc n) s with step s
   step-text s t (Err e) accesses ∷ (codes "end " ++ state-text 0 t) ∷ []
 
 -- a hart's profile, as a sum: 1 for extension A, 2 for fence.i, 4 for misaligned accesses, 8 for
--- compressed code, 32 for Zba, 64 for Zbb, and 128 for Zbs, as in rrs.h
+-- compressed code, and 32, 64, 128, 256, 512 and 1,024 for Zba, Zbb, Zbs, Zbc, Zbkb and Zicond, as
+-- in rrs.h
 profile-of : ℕ → HartProfile
 profile-of n = record
   { atomics· = has 1 ; fence-i· = has 2 ; misaligned· = has 4 ; compressed· = has 8
-  ; zba· = has 32 ; zbb· = has 64 ; zbs· = has 128 }
+  ; zba· = has 32 ; zbb· = has 64 ; zbs· = has 128 ; zbc· = has 256 ; zbkb· = has 512
+  ; zicond· = has 1024 }
   where
   has : ℕ → Bool
   has bit = n / bit % 2 == 1

@@ -370,7 +370,8 @@ IsStrictlyIncreasing xs = (k : ℕ) → k + 1 < length xs → slice-index xs k <
 Width : Set
 Width = ℕ
 
-w32 : Width
+w8 w32 : Width
+w8 = 8
 w32 = 32
 
 ones-of trailing-of leading-of : ℕ → ℕ → ℕ
@@ -393,6 +394,21 @@ rotate-left w n by =
   if by % w == 0 then n else n * 2 ^ (by % w) % 2 ^ w + n / 2 ^ (w - by % w)
 rotate-right w n by =
   if by % w == 0 then n else n / 2 ^ (by % w) + n * 2 ^ (w - by % w) % 2 ^ w
+
+-- the low bits in the other order, and the sums of the two bits at each of 64 places modulo 2
+reversed-onto : ℕ → ℕ → ℕ → ℕ
+reversed-onto zero n a = a
+reversed-onto (suc k) n a = reversed-onto k (n / 2) (a * 2 + n % 2)
+
+reverse-bits : Width → ℕ → ℕ
+reverse-bits w n = reversed-onto w n 0
+
+xor-of : ℕ → ℕ → ℕ → ℕ
+xor-of zero a b = 0
+xor-of (suc k) a b = (a % 2 + b % 2) % 2 + 2 * xor-of k (a / 2) (b / 2)
+
+bit-xor : ℕ → ℕ → ℕ
+bit-xor = xor-of 64
 
 lowest-bytes : ℕ → ℕ → List ℕ
 lowest-bytes zero n = []

@@ -42,21 +42,21 @@ const LAYOUT = {
   boardEnd: { size: 16, steps: 0, event: 8, value: 12 },
 };
 
-/* The bits of a profile, of a hart and of machine mode, that are Zba, Zbb and Zbs. */
-const BIT_PROFILE = 32 | 64 | 128;
+/* The bits of a profile, of a hart and of machine mode, that are Zba to Zicond. */
+const BIT_PROFILE = 32 | 64 | 128 | 256 | 512 | 1024;
 
 /* Whether a row is one of these, as rrs.h numbers them. */
-const isRowOfBits = (row) => row >= 69 && row <= 97;
+const isRowOfBits = (row) => row >= 69 && row <= 107;
 
 /* What the hart of a process has beside the 48 rows, as bits of its profile: extension A, fence.i,
- * loads and stores at misaligned addresses, and Zba, Zbb and Zbs. */
+ * loads and stores at misaligned addresses, and Zba to Zicond. */
 const PROCESS_PROFILE = 1 | 2 | 4 | BIT_PROFILE;
 
 /* The bit of such a profile that is extension C. */
 const COMPRESSED_PROFILE = 8;
 
-/* The bits of a profile of machine mode: extension A, user mode, extension C, and those of Zba, Zbb and
- * Zbs. */
+/* The bits of a profile of machine mode: extension A, user mode, extension C, and those of Zba to
+ * Zicond. */
 const PROFILE = { ATOMICS: 1, USER_MODE: 2, COMPRESSED: 4, BITS: BIT_PROFILE };
 
 /* What the hart of the board has, but for extension C. */
@@ -297,7 +297,7 @@ class Kit {
     return this.stepHart(0);
   }
 
-  /** Makes the step at the pc that was noted, and is illegal without Zba, Zbb and Zbs, where it is of
+  /** Makes the step at the pc that was noted, and is illegal without Zba to Zicond, where it is of
    * these, and notes its register. Returns the kind of its fault, or 0. */
   stepBits(change) {
     const { row, rd } = this.decode(this.bitsAt(this.pc));
@@ -425,7 +425,7 @@ class Kit {
     };
   }
 
-  /** Whether an instruction is one of Zba, Zbb or Zbs. */
+  /** Whether an instruction is one of Zba to Zicond. */
   isOfBits(bits) {
     return isRowOfBits(this.rowOf(bits));
   }

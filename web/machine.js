@@ -169,7 +169,7 @@ class Machine {
     return bits === undefined ? undefined : this.kit.wordOf(bits);
   }
 
-  /** Whether the hart has Zba, Zbb and Zbs: that of a process and that of machine mode. */
+  /** Whether the hart has Zba to Zicond: that of a process and that of machine mode. */
   get hasBits() {
     return this.isProcess && this.environment.hasProcesses || this.environment.hasTraps;
   }

@@ -152,17 +152,28 @@ static void fences(void) {
 }
 
 static void bits(void) {
-    /* sh2add x5, x1, x2; andn x6, x1, x2; bseti x7, x1, 31 */
-    begin(0x2020c2b3, 0x4020f333, 0x29f09393, 0);
+    /* sh2add x5, x1, x2; max x6, x1, x2; bseti x7, x1, 31; clmul x8, x1, x2 */
+    begin(0x2020c2b3, 0x0a20e333, 0x29f09393, 0x0a209433);
     show_fault("no Zba", step(~(uint32_t)RRS_HART_ZBA));
     show_fault("sh2add", step_rvfi(RRS_HART_ZBA, 0));
     show_record("sh2add");
     show_fault("no Zbb", step(~(uint32_t)RRS_HART_ZBB));
-    show_fault("andn", step(RRS_HART_ZBB));
+    show_fault("max", step(RRS_HART_ZBB));
     show_fault("no Zbs", step(~(uint32_t)RRS_HART_ZBS));
     show_fault("bseti", step_rvfi(RRS_HART_ZBS, 1));
     show_record("bseti");
     printf("x5 0x%08x, x6 0x%08x, x7 0x%08x\n", hart.x[5], hart.x[6], hart.x[7]);
+    show_fault("no Zbc", step(~(uint32_t)RRS_HART_ZBC));
+    show_fault("clmul", step_rvfi(RRS_HART_ZBC, 2));
+    show_record("clmul");
+    /* packh x8, x1, x2; andn x9, x1, x2, which Zbkb has too; czero.eqz x10, x1, x2 */
+    begin(0x0820f433, 0x4020f4b3, 0x0e20d533, 0);
+    show_fault("no Zbkb", step(~(uint32_t)RRS_HART_ZBKB));
+    show_fault("packh", step(RRS_HART_ZBKB));
+    show_fault("andn", step(RRS_HART_ZBKB));
+    show_fault("no Zicond", step(~(uint32_t)RRS_HART_ZICOND));
+    show_fault("czero.eqz", step(RRS_HART_ZICOND));
+    printf("x8 0x%08x, x9 0x%08x, x10 0x%08x\n", hart.x[8], hart.x[9], hart.x[10]);
 }
 
 /* What gcc with -march=rv32imac and its linker make of this, but for the sections:

@@ -450,7 +450,7 @@ Row = enum.IntEnum(
     "BINV BINVI BSET BSETI CLMUL CLMULH CLMULR PACK PACKH BREV8 ZIP UNZIP CZERO_EQZ CZERO_NEZ",
 )
 Row.__doc__ = """The rows of the table, 1 to 48, as decode() numbers them, and the instructions above it:
-those on CSRs, mret, wfi and fence.i, extension A, and Zba, Zbb and Zbs."""
+those on CSRs, mret, wfi and fence.i, extension A, and Zba to Zicond."""
 
 
 class AccessKind(enum.IntEnum):
@@ -500,7 +500,8 @@ class Change(NamedTuple):
 class HartLayer(enum.IntFlag):
     """What a hart has beside RV32IM, as the profile of Machine.step_hart: extension A; fence.i, which
     does nothing, since each fetch reads what was stored; loads and stores at misaligned addresses;
-    extension C, instructions of 16 bits; and Zba, Zbb and Zbs, of bit manipulation.
+    extension C, instructions of 16 bits; Zba, Zbb, Zbs, Zbc and Zbkb, of bit manipulation; and
+    Zicond, conditional zeros.
     ``HartLayer.A + HartLayer.C`` is a profile."""
 
     A = 1
@@ -510,12 +511,15 @@ class HartLayer(enum.IntFlag):
     ZBA = 32
     ZBB = 64
     ZBS = 128
+    ZBC = 256
+    ZBKB = 512
+    ZICOND = 1024
 
 
 class MachineLayer(enum.IntFlag):
     """What a hart with machine mode has beside RV32IM, as the profile of Csrs and Board: extension
     A; user mode; extension C; loads and stores at misaligned addresses; that it lacks fence.i; and
-    Zba, Zbb and Zbs.
+    Zba to Zicond.
     """
 
     A = 1
@@ -526,6 +530,9 @@ class MachineLayer(enum.IntFlag):
     ZBA = 32
     ZBB = 64
     ZBS = 128
+    ZBC = 256
+    ZBKB = 512
+    ZICOND = 1024
 
 
 class OutcomeKind(enum.IntEnum):

@@ -1,6 +1,6 @@
 {-# OPTIONS --safe --without-K #-}
 -- The decoding of the words that the table leaves out, as the definitions have it: the instructions
--- of machine mode, those of extension A, of Zba, Zbb and Zbs, and those of the layers that a profile
+-- of machine mode, those of extension A, of Zba to Zicond, and those of the layers that a profile
 -- has.
 module Reading.Layers where
 
@@ -15,10 +15,11 @@ open import machine-words.Declared using
   ( SystemRow; Csrrw; Csrrs; Csrrc; Csrrwi; Csrrsi; Csrrci; Mret; Wfi; FenceI
   ; HartProfile; fence-i·; atomics·; LayerInstruction; System; Atomic
   ; AtomicRow; LrW; ScW; AmoSwap; AmoAdd; AmoXor; AmoAnd; AmoOr; AmoMin; AmoMax; AmoMinu; AmoMaxu
-  ; Bits; BitOperand; Register; Amount; Fixed; BitRow
+  ; Bits; BitOperand; Register; NotX0; Amount; Fixed; BitRow
   ; Sh1add ; Sh2add ; Sh3add ; Andn ; Orn ; Xnor ; Clz ; Ctz ; Cpop ; Max ; Maxu ; Min ; Minu
   ; SextB ; SextH ; ZextH ; Rol ; Ror ; Rori ; OrcB ; Rev8 ; Bclr ; Bclri ; Bext ; Bexti ; Binv
-  ; Binvi ; Bset ; Bseti)
+  ; Binvi ; Bset ; Bseti ; Clmul ; Clmulh ; Clmulr ; Pack ; Packh ; Brev8 ; Zip ; Unzip ; CzeroEqz
+  ; CzeroNez)
 open import machine-words.SystemInstructions
 open import machine-words.AtomicInstructions
 open import machine-words.BitInstructions
@@ -179,13 +180,14 @@ decode-atomic w with find-atomic w all-atomic-rows
 ... | inj₂ ns = inj₂ λ row f is → each-at (atomic-place row) ns (atomic-placed row)
                   (subst (IsAtomic w row) (only-r-fields is) is)
 
--- ---- the instructions of Zba, Zbb and Zbs
+-- ---- the instructions of Zba to Zicond
 
 all-bit-rows : List BitRow
 all-bit-rows =
   Sh1add ∷ Sh2add ∷ Sh3add ∷ Andn ∷ Orn ∷ Xnor ∷ Clz ∷ Ctz ∷ Cpop ∷ Max ∷ Maxu ∷ Min ∷ Minu ∷
   SextB ∷ SextH ∷ ZextH ∷ Rol ∷ Ror ∷ Rori ∷ OrcB ∷ Rev8 ∷ Bclr ∷ Bclri ∷ Bext ∷ Bexti ∷ Binv ∷
-  Binvi ∷ Bset ∷ Bseti ∷ []
+  Binvi ∷ Bset ∷ Bseti ∷ Clmul ∷ Clmulh ∷ Clmulr ∷ Pack ∷ Packh ∷ Brev8 ∷ Zip ∷ Unzip ∷
+  CzeroEqz ∷ CzeroNez ∷ []
 
 bit-place : BitRow → ℕ
 bit-place Sh1add = 0
@@ -217,6 +219,16 @@ bit-place Binv = 25
 bit-place Binvi = 26
 bit-place Bset = 27
 bit-place Bseti = 28
+bit-place Clmul = 29
+bit-place Clmulh = 30
+bit-place Clmulr = 31
+bit-place Pack = 32
+bit-place Packh = 33
+bit-place Brev8 = 34
+bit-place Zip = 35
+bit-place Unzip = 36
+bit-place CzeroEqz = 37
+bit-place CzeroNez = 38
 
 bit-placed : (row : BitRow) → slice-get all-bit-rows (bit-place row) ≡ Some row
 bit-placed = λ {
@@ -224,7 +236,9 @@ bit-placed = λ {
   Clz → refl ; Ctz → refl ; Cpop → refl ; Max → refl ; Maxu → refl ; Min → refl ; Minu → refl ;
   SextB → refl ; SextH → refl ; ZextH → refl ; Rol → refl ; Ror → refl ; Rori → refl ;
   OrcB → refl ; Rev8 → refl ; Bclr → refl ; Bclri → refl ; Bext → refl ; Bexti → refl ;
-  Binv → refl ; Binvi → refl ; Bset → refl ; Bseti → refl }
+  Binv → refl ; Binvi → refl ; Bset → refl ; Bseti → refl ; Clmul → refl ; Clmulh → refl ;
+  Clmulr → refl ; Pack → refl ; Packh → refl ; Brev8 → refl ; Zip → refl ; Unzip → refl ;
+  CzeroEqz → refl ; CzeroNez → refl }
 
 bit-opcode-below : (row : BitRow) → bit-table row .opcode· < 2 ^ 7
 bit-opcode-below = λ {
@@ -233,7 +247,9 @@ bit-opcode-below = λ {
   Maxu → lt refl ; Min → lt refl ; Minu → lt refl ; SextB → lt refl ; SextH → lt refl ;
   ZextH → lt refl ; Rol → lt refl ; Ror → lt refl ; Rori → lt refl ; OrcB → lt refl ;
   Rev8 → lt refl ; Bclr → lt refl ; Bclri → lt refl ; Bext → lt refl ; Bexti → lt refl ;
-  Binv → lt refl ; Binvi → lt refl ; Bset → lt refl ; Bseti → lt refl }
+  Binv → lt refl ; Binvi → lt refl ; Bset → lt refl ; Bseti → lt refl ; Clmul → lt refl ;
+  Clmulh → lt refl ; Clmulr → lt refl ; Pack → lt refl ; Packh → lt refl ; Brev8 → lt refl ;
+  Zip → lt refl ; Unzip → lt refl ; CzeroEqz → lt refl ; CzeroNez → lt refl }
 
 -- a word that is one of them has no other fields than these
 only-bit-fields : {w : ℕ} {row : BitRow} {f : RType} → IsBits w row f → f ≡ r-fields w
@@ -244,6 +260,9 @@ only-bit-fields {w} {row} {f} is = trans
 
 operand? : (o : BitOperand) (n : ℕ) → Dec (IsOperand o n)
 operand? Register n = yes tt
+operand? NotX0 n with n ≡? 0
+... | yes is = no λ not → not is
+... | no not = yes not
 operand? Amount n = yes tt
 operand? (Fixed m) n = n ≡? m
 
@@ -307,7 +326,7 @@ profile-fence? p w with test (p .fence-i·)
 ...   | yes is = inj₁ (System (record { row· = FenceI ; fields· = i-fields w }) , has , is)
 ...   | no n = inj₂ λ f has is → n (subst (IsSystem w FenceI) (only-i-fields is) is)
 
--- an instruction of Zba, Zbb or Zbs that the profile has
+-- an instruction of Zba to Zicond that the profile has
 profile-bits? : (p : HartProfile) (w : ℕ)
   → (Σ LayerInstruction λ i → IsOfProfile p w i)
     ⊎ ((row : BitRow) (f : RType) → has-bits p (bit-table row .extension·) ≡ true

@@ -1,5 +1,5 @@
-"""The definitions of a hart with extension A, fence.i, misaligned accesses, compressed code, Zba,
-Zbb and Zbs beside qemu-riscv32: random steps, each with its registers, pc and accesses, and the
+"""The definitions of a hart with extension A, fence.i, misaligned accesses, compressed code and Zba
+to Zbkb beside qemu-riscv32, whose version 7.2 has no Zicond: random steps, each with its registers, pc and accesses, and the
 memory that they leave."""
 
 import random
@@ -12,15 +12,16 @@ from .user import CODE, DATA, EDGES, END, LOW, b_type, i_type, j_type, load_cons
 STACK = 2                       # a third base, which no instruction leaves changed
 BASES = (DATA, LOW, STACK)
 AMOS = [0x01, 0x00, 0x04, 0x0C, 0x08, 0x10, 0x14, 0x18, 0x1C]
-PROFILE = 1 + 2 + 4 + 8 + 32 + 64 + 128     # all that a profile has
+PROFILE = 1 + 2 + 4 + 8 + 32 + 64 + 128 + 256 + 512     # all that a profile has but Zicond
 NOP = 0x0001                    # c.nop
-# funct7 and funct3 of Zba, Zbb and Zbs: of two registers, of a register and an amount, and of a
+# funct7 and funct3 of Zba to Zbkb: of two registers, of a register and an amount, and of a
 # register alone, with what stands in the place of rs2
 TWO = [(0x10, 2), (0x10, 4), (0x10, 6), (0x20, 7), (0x20, 6), (0x20, 4), (0x05, 4), (0x05, 5),
-       (0x05, 6), (0x05, 7), (0x30, 1), (0x30, 5), (0x24, 1), (0x24, 5), (0x34, 1), (0x14, 1)]
+       (0x05, 6), (0x05, 7), (0x30, 1), (0x30, 5), (0x24, 1), (0x24, 5), (0x34, 1), (0x14, 1),
+       (0x05, 1), (0x05, 2), (0x05, 3), (0x04, 4), (0x04, 7)]
 AMOUNT = [(0x30, 5), (0x24, 1), (0x24, 5), (0x34, 1), (0x14, 1)]
 ONE = [(0x30, 1, 0), (0x30, 1, 1), (0x30, 1, 2), (0x30, 1, 4), (0x30, 1, 5), (0x14, 5, 7),
-       (0x34, 5, 24)]
+       (0x34, 5, 24), (0x34, 5, 7), (0x04, 1, 15), (0x04, 5, 15)]
 
 
 def halves(*words):
@@ -135,18 +136,13 @@ def atomic(chance):
 
 
 def bits(chance):
-    """An instruction of Zba, Zbb or Zbs."""
+    """An instruction of Zba to Zbkb."""
     rd = chance.choice([r for r in range(32) if r not in BASES])
-    rs1, rs2, kind = chance.randrange(32), chance.randrange(32), chance.randrange(29)
-    if kind == 0:       # zext.h
-        return halves(r_type(0x04, 0, rs1, 4, rd, 0x33))
-    if kind < 8:
-        funct7, funct3, rs2 = ONE[kind - 1]
-    elif kind < 13:
-        funct7, funct3 = AMOUNT[kind - 8]
-    else:
-        funct7, funct3 = TWO[kind - 13]
-    return halves(r_type(funct7, rs2, rs1, funct3, rd, 0x33 if kind >= 13 else 0x13))
+    rs1, rs2 = chance.randrange(32), chance.randrange(32)
+    fields = chance.choice([(0x04, 4, 0), *ONE, *AMOUNT, *TWO])      # the first is zext.h
+    funct7, funct3, rs2 = fields if len(fields) == 3 else (*fields, rs2)
+    is_on_immediate = fields in ONE or fields in AMOUNT and chance.random() < 0.5
+    return halves(r_type(funct7, rs2, rs1, funct3, rd, 0x13 if is_on_immediate else 0x33))
 
 
 def word(chance):

@@ -148,7 +148,7 @@ def qemu_log(room, plugin, entry, segments):
     path, log = Path(room, "program"), Path(room, "log")
     path.write_bytes(elf(entry, segments))
     path.chmod(0o755)
-    done = subprocess.run(["qemu-riscv32", "-singlestep", "-plugin", plugin, "-d",
+    done = subprocess.run(["qemu-riscv32", "-cpu", "rv32,zbkb=true", "-singlestep", "-plugin", plugin, "-d",
                            "cpu,plugin,nochain", "-D", log, path],
                           check=False, stdout=subprocess.PIPE)
     if done.returncode:

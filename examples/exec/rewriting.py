@@ -8,7 +8,7 @@ usage: rewriting.py RRS FIRST COUNT
 The programs are those of COUNT seeds from FIRST on. A loop goes through two pieces of code, which are
 8192 bytes apart. In each round bytes, half-words and words are stored over its instructions of 16 and of
 32 bits: over whole ones, over a half or a byte of one, two of 16 bits over one of 32, and one of 32 over
-two of 16; and now and then any bits. Some are of Zba, Zbb and Zbs. Every fourth program has no
+two of 16; and now and then any bits. Some are of Zba to Zbkb. Every fourth program has no
 compressed code, and runs by --march rv32ima_zifencei, where these are illegal. One that comes to the limit is not run by qemu-riscv32. Each seed whose runs
 differ has a line; the last line counts the programs, those that agree, and of these those that end by a
 signal. What jumps or stores anywhere by chance may differ: here more of the memory is mapped. The status
@@ -27,14 +27,15 @@ START, DATA, ROWS, END = 0x10000, 0x14000, 0x14100, 0x15000
 # is that of the values that this round stores, and x4 counts rounds.
 FREE = (8, 10, 11, 12, 13, 14, 15, 1, 5, 16, 17, 18, 19, 20, 21)
 SMALL = FREE[:7]
-CPU = "rv32,f=off,d=off,zbc=off,c={0},zba={0},zbb={0},zbs={0}"
+CPU = "rv32,f=off,d=off,c={0},zba={0},zbb={0},zbs={0},zbc={0},zbkb={0}"
 LIMIT = 10000
-# The instructions of Zba, Zbb and Zbs: opcode, funct7, funct3, and rs2 or None where it is any.
+# The instructions of Zba to Zbkb: opcode, funct7, funct3, and rs2 or None where it is any.
 BITS = (*((0x33, funct7, funct3, None) for funct7, row in (
-            (0x10, (2, 4, 6)), (0x20, (4, 6, 7)), (5, (4, 5, 6, 7)), (0x30, (1, 5)), (0x24, (1, 5)),
+            (0x10, (2, 4, 6)), (0x20, (4, 6, 7)), (5, (1, 2, 3, 4, 5, 6, 7)), (4, (4, 7)), (0x30, (1, 5)), (0x24, (1, 5)),
             (0x34, (1,)), (0x14, (1,))) for funct3 in row),
         (0x13, 0x30, 5, None), *((0x13, funct7, 1, None) for funct7 in (0x24, 0x34, 0x14)),
         (0x13, 0x24, 5, None), (0x33, 4, 4, 0), (0x13, 0x14, 5, 7), (0x13, 0x34, 5, 24),
+        (0x13, 0x34, 5, 7), (0x13, 4, 1, 15), (0x13, 4, 5, 15),
         *((0x13, 0x30, 1, rs2) for rs2 in (0, 1, 2, 4, 5)))
 LOG_BYTES = 1 << 20
 

@@ -1,8 +1,8 @@
 #!/usr/bin/env python3
-"""Writes a decoder of RV32IMC, Zba, Zbb and Zbs in C that is QEMU's: its tables, insn32.decode and insn16.decode, through
-its own generator, decodetree.py, which makes of each a tree of tests that call trans_NAME with the
-fields of the word. For a half-word that is the row that it stands for. What is written here is these
-functions: for a name of RV32IM, Zba, Zbb or Zbs one that stores its row and its fields, and for each
+"""Writes a decoder of RV32IMC and Zba to Zbkb in C that is QEMU's: its tables, insn32.decode and
+insn16.decode, through its own generator, decodetree.py, which makes of each a tree of tests that call
+trans_NAME with the fields of the word. For a half-word that is the row that it stands for. What is
+written here is these functions: for a name of RV32IM or Zba to Zbkb one that stores its row and its fields, and for each
 other name one that refuses the word, as QEMU does where the hart has not that extension.
 
 usage: decoder.py QEMU INTO
@@ -25,9 +25,10 @@ ROWS = {
     "B": "beq bne blt bltu bge bgeu",
     "U": "lui auipc",
     "J": "jal",
-    "BITS": "sh1add sh2add sh3add andn orn xnor max maxu min minu rol ror bclr bext binv bset",
+    "BITS": "sh1add sh2add sh3add andn orn xnor max maxu min minu rol ror bclr bext binv bset clmul "
+            "clmulh clmulr pack packh",
     "AMOUNT": "rori bclri bexti binvi bseti",
-    "ALONE": "clz ctz cpop sext_b sext_h zext_h_32 orc_b rev8_32",
+    "ALONE": "clz ctz cpop sext_b sext_h zext_h_32 orc_b rev8_32 brev8 zip unzip",
 }
 # The format of fields that a row of each kind has: those of the last three kinds are as of R, with an
 # amount or a number in the place of rs2.

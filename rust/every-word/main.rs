@@ -1,6 +1,7 @@
-//! Compares the kit's decoder and that of Zba, Zbb and Zbs, word by word, with the decoder that
+//! Compares the kit's decoder and that of Zba to Zicond, word by word, with the decoder that
 //! `decoder.py` makes of QEMU's tables, and the texts' rows; and with the feature `original` the kit's
-//! with rrs-lib 0.1.0, with its texts. It compares each half-word too that is no part of a word: the
+//! with rrs-lib 0.1.0, with its texts. QEMU 7.2 has no Zicond: of that the listing of the standard is
+//! written here. It compares each half-word too that is no part of a word: the
 //! row that it stands for.
 //!
 //! usage: every-word all | every-word PART
@@ -25,8 +26,9 @@ include!(env!("NAMES"));
 /// Words that are instructions: 22 rows with 22 bits that are free, 3 with 25, 21 with 15, and
 /// `ecall` and `ebreak`.
 const INSTRUCTIONS: u64 = (22 << 22) + (3 << 25) + (21 << 15) + 2;
-/// Words that are instructions of Zba, Zbb or Zbs: 21 with 15 bits that are free, and 8 with 10.
-const BITS: u64 = (21 << 15) + (8 << 10);
+/// Words that are instructions of Zba to Zicond: 27 with 15 bits that are free, pack, whose rs2 is not
+/// x0, and 11 with 10.
+const BITS: u64 = (27 << 15) + (31 << 10) + (11 << 10);
 /// Words that the original takes for `slli`, for 127 more funct7, and for `jalr`, for 7 more funct3;
 /// and `ecall` and `ebreak`, which it does not decode.
 const LISTED: u64 = (127 << 15) + (7 << 22) + 2;
@@ -100,11 +102,30 @@ fn decode_by_qemu(encoding: Encoding) -> Option<(&'static str, InstructionFields
     Some((NAMES[found.row as usize], fields))
 }
 
-/// Whether the decoder of Zba, Zbb and Zbs, and that of all layers, have the row by the text's name and
-/// the fields that QEMU's has. `None` is of no such instruction.
+/// The instruction of Zicond that a word is: opcode 0110011 and funct7 0000111, `czero.eqz` with
+/// funct3 101 and `czero.nez` with 111.
+fn conditional(word: u32) -> Option<(&'static str, InstructionFields)> {
+    let name = match word & 0xfe00_707f {
+        0x0e00_5033 => "czero.eqz",
+        0x0e00_7033 => "czero.nez",
+        _ => return None,
+    };
+    let register = |place: u32| (word >> place & 31) as usize;
+    let fields = RType {
+        funct7: 7,
+        rs2: register(20),
+        rs1: register(15),
+        funct3: word >> 12 & 7,
+        rd: register(7),
+    };
+    Some((name, InstructionFields::R(fields)))
+}
+
+/// Whether the decoder of Zba to Zicond, and that of all layers, have the row by the text's name and
+/// the fields that QEMU's has, or that the listing of Zicond has. `None` is of no such instruction.
 fn is_qemus_layer(word: u32, qemus: Option<(&'static str, InstructionFields)>) -> bool {
     let found = decode_bits(word);
-    let is_one = match (found, qemus) {
+    let is_one = match (found, qemus.or_else(|| conditional(word))) {
         (None, None) => true,
         (Some(bits), Some((name, fields))) => {
             InstructionFields::R(bits.fields) == fields
@@ -175,7 +196,7 @@ impl Seen {
         }
     }
 
-    /// Compares a word, and counts what it is: a row, one of Zba, Zbb and Zbs, and one in which the
+    /// Compares a word, and counts what it is: a row, one of Zba to Zicond, and one in which the
     /// original differs.
     fn compare(&self, word: u32, [instructions, bits, _listed]: &mut [u64; 3]) {
         let decoded = decode(word);
@@ -254,12 +275,12 @@ fn main() -> ExitCode {
     let wrong = seen.wrong.into_inner();
     if wrong > 0 || !is_counted {
         println!("{wrong} words are wrong; {instructions} are instructions, and {listed} differ");
-        println!("{bits} are instructions of Zba, Zbb or Zbs");
+        println!("{bits} are instructions of Zba to Zicond");
         println!("{short} half-words stand for one");
         return ExitCode::FAILURE;
     }
     println!("{} words, {instructions} of them instructions: as QEMU's decoder", end - begin);
-    println!("{bits} more are instructions of Zba, Zbb or Zbs: as QEMU's decoder");
+    println!("{bits} more are instructions of Zba to Zicond: as QEMU's decoder");
     println!("{HALVES} half-words, {short} of them instructions: as QEMU's decoder");
     if cfg!(feature = "original") {
         println!("as the original, but for {listed} words that are listed");

@@ -52,7 +52,7 @@ pub use rrs_trace as trace;
 pub use rrs_elf as elf;
 
 /// A hart with what a [HartProfile](hart::HartProfile) has beside the 48 rows: extension A,
-/// `fence.i`, misaligned accesses, compressed code, Zba, Zbb and Zbs. Feature `hart`.
+/// `fence.i`, misaligned accesses, compressed code, and Zba to Zicond. Feature `hart`.
 ///
 /// [run_hart](hart::run_hart) decodes each instruction. [run_layers_cached](fast::run_layers_cached)
 /// makes the same run over a [CachedMemory](fast::CachedMemory), which keeps instructions of 2 and of

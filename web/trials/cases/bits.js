@@ -1,6 +1,6 @@
 "use strict";
 
-// Instructions of Zba, Zbb and Zbs: in processes, in machine mode and on the board.
+// Instructions of Zba to Zicond: in processes, in machine mode and on the board.
 
 const { execFileSync } = require("node:child_process");
 const fs = require("node:fs");
@@ -34,8 +34,8 @@ const PROGRAM = Buffer.from(
 const MADE = ["andn", "bset", "clz", "cpop", "ctz", "min", "rol", "sext.h", "zext.h"];
 const BSET = 0x100a8;
 
-/* The first and the last row of Zba, Zbb and Zbs, and how many there are. */
-const [FIRST_ROW, LAST_ROW, ROWS] = [69, 97, 29];
+/* The first and the last row of Zba to Zicond, and how many there are. */
+const [FIRST_ROW, LAST_ROW, ROWS] = [69, 107, 39];
 
 async function sessionOf(page, kit, file) {
   const session = new page.Session(new page.Machine(kit));
