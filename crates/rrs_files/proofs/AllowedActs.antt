@@ -1,12 +1,12 @@
 -- What is done to files that may only be read is done by calls of the host that change nothing, and
 -- the files may only be read still: the calls whose path is read.
-use Rattle.std.proofs.Common.{◌≡◌, ℕ, ◌&&◌, ◌||◌, Bool, true, false, List, Option, Some, None, refl, sym, ap, ◌∙◌}
+use Rattle.std.proofs.Common.{◌≡◌, ℕ, ◌&&◌, ◌||◌, Bool, true, false, List, Option, Some, None, refl, sym, subst, ap, ◌∙◌}
 use Rattle.rrs_files.specs.declared.files.Files.{Files}
 use Rattle.rrs_files.specs.declared.folder.Change.{Change}
 use Rattle.rrs_files.specs.declared.folder.How.{How}
 use Rattle.rrs_files.specs.declared.folder.NameChange.{NameChange}
 use Rattle.rrs_files.specs.declared.paths.Named.{Named}
-use Rattle.rrs_files.specs.Acts.{Opens, IsUnserved, IsReadOnly, HasNoPlace, IsRefused, HasFailed, IsOpened, Closes, IsClosedNow, IsStillOpen, WasClosed, ClosesStream, IsNoOpenStream, IsClosedStream, Copies, IsCopied, HasNoPlaceToCopy, NotOpenToCopy, CopiesTo, HasBadFlags, IsNoDescriptor, NotOpenToCopyTo, IsCopiedTo, Changes, NotOpenToChange, MayNotChange, IsChanged, Owns, NotOpenToOwn, HasNoOwner, HasOwner, ChangesName, MayNot, IsKept, HasChanged, Renames, MayNotRename, IsNotMoved, IsNotReplaced, IsRenamed, Tests, IsTested, Controls, IsOfClosedStream, IsOfStream, NotOpenToControl, IsControlled, ControlsDevice, NotOpenToControlDevice, IsNoTerminal, withholding}
+use Rattle.rrs_files.specs.Acts.{Opens, IsUnserved, IsReadOnly, HasNoPlace, IsRefused, HasFailed, IsOpened, Leaves, IsLeft, IsStillUsed, Closes, IsClosedNow, WasStream, WasClosed, Copies, IsCopied, HasNoPlaceToCopy, HasNoLeast, NotOpenToCopy, CopiesTo, HasBadFlags, IsNoDescriptor, NotOpenToCopyTo, IsCopiedTo, Changes, NotOpenToChange, MayNotChange, IsChanged, Owns, NotOpenToOwn, HasNoOwner, HasOwner, ChangesName, MayNot, IsKept, HasChanged, Renames, MayNotRename, IsNotMoved, IsNotReplaced, IsRenamed, Tests, IsTested, Controls, IsCopying, NotOpenToControl, IsControlled, ControlsDevice, NotOpenToControlDevice, IsNoTerminal, withholding}
 use Rattle.rrs_files.specs.Events.{Allowed, ChangesNothing, Changed, Did, IsReadAlone}
 use Rattle.rrs_files.specs.Paths.{Enters, IsName, IsSlash, Walked, Begun, Further, Walks, IsSeen, IsStopped}
 use Rattle.rrs_files.specs.Requests.{changes}
@@ -67,6 +67,12 @@ module _ {F : Type 0} (did : Did F) where
       (enters only path at now new (Some e) entered) is
 
   -- By the files before and after, and the answer:
+  leaves : (old new : Files F) (at : ℕ) → Leaves did at old new
+      → Leaves (Allowed did old.is_read_only) at old new × KeepsRight old new
+  leaves old new at (IsLeft folder none told same) =
+      (IsLeft folder none (told, λ h. tt) same, ap (λ files. files.is_read_only) same)
+  leaves old new at (IsStillUsed used same) = (IsStillUsed used same, kept old new same)
+
   module _ (old new : Files F) (answer : ℕ) where
     pub opens : (path : List ℕ) (flags mode : ℕ) → Opens did path flags mode old new answer
         → Opens (Allowed did old.is_read_only) path flags mode old new answer × KeepsRight old new
@@ -90,25 +96,26 @@ module _ {F : Type 0} (did : Did F) where
 
     pub closes : (descriptor : ℕ) → Closes did descriptor old new answer
         → Closes (Allowed did old.is_read_only) descriptor old new answer × KeepsRight old new
-    closes descriptor (IsClosedNow at left folder a b c told same is) =
-        (IsClosedNow at left folder a b c (told, λ h. tt) same is, ap (λ files. files.is_read_only) same)
-    closes descriptor (IsStillOpen at left a b c same is) =
-        (IsStillOpen at left a b c same is, ap (λ files. files.is_read_only) same)
+    closes descriptor (IsClosedNow at mid a b left is) =
+        let right : mid.is_read_only ≡ old.is_read_only = ap (λ files. files.is_read_only) b in
+        let all = leaves mid new at left in (
+          IsClosedNow at mid a b (subst (λ only. Leaves (Allowed did only) at mid new) right all.0) is,
+          all.1 ∙ right,
+        )
+    closes descriptor (WasStream stream a same is) =
+        (WasStream stream a same is, ap (λ files. files.is_read_only) same)
     closes descriptor (WasClosed a same is) = (WasClosed a same is, kept old new same)
 
-    pub closes_stream : (stream : ℕ) → ClosesStream did stream old new answer
-        → ClosesStream (Allowed did old.is_read_only) stream old new answer × KeepsRight old new
-    closes_stream stream (IsNoOpenStream a same is) = (IsNoOpenStream a same is, kept old new same)
-    closes_stream stream (IsClosedStream a b same is) =
-        (IsClosedStream a b same is, ap (λ files. files.is_read_only) same)
-
-    pub copies : (descriptor : ℕ) → Copies did descriptor old new answer
-        → Copies (Allowed did old.is_read_only) descriptor old new answer × KeepsRight old new
-    copies descriptor (IsCopied at place a b same is) =
-        (IsCopied at place a b same is, ap (λ files. files.is_read_only) same)
-    copies descriptor (HasNoPlaceToCopy at a b same is) =
-        (HasNoPlaceToCopy at a b same is, kept old new same)
-    copies descriptor (NotOpenToCopy a same is) = (NotOpenToCopy a same is, kept old new same)
+    pub copies : (descriptor least : ℕ) → Copies did descriptor least old new answer
+        → Copies (Allowed did old.is_read_only) descriptor least old new answer
+        × KeepsRight old new
+    copies descriptor least (IsCopied target place a b same is) =
+        (IsCopied target place a b same is, ap (λ files. files.is_read_only) same)
+    copies descriptor least (HasNoPlaceToCopy target a b c same is) =
+        (HasNoPlaceToCopy target a b c same is, kept old new same)
+    copies descriptor least (HasNoLeast target a b same is) =
+        (HasNoLeast target a b same is, kept old new same)
+    copies descriptor least (NotOpenToCopy a same is) = (NotOpenToCopy a same is, kept old new same)
 
     pub changed : (descriptor : ℕ) (change : Change) → Changes did descriptor change old new answer
         → Changes (Allowed did old.is_read_only) descriptor change old new answer
@@ -178,14 +185,12 @@ module _ {F : Type 0} (did : Did F) where
         → Controls did descriptor command argument old new answer
         → Controls (Allowed did old.is_read_only) descriptor command argument old new answer
         × KeepsRight old new
-    controls descriptor command argument (IsOfClosedStream a same is) =
-        (IsOfClosedStream a same is, kept old new same)
-    controls descriptor command argument (IsOfStream a b same is) =
-        (IsOfStream a b same is, kept old new same)
-    controls descriptor command argument (NotOpenToControl a b same is) =
-        (NotOpenToControl a b same is, kept old new same)
-    controls descriptor command argument (IsControlled place a same is) =
-        (IsControlled place a same is, kept old new same)
+    controls descriptor command argument (IsCopying a copied) =
+        let all = copies descriptor argument copied in (IsCopying a all.0, all.1)
+    controls descriptor command argument (NotOpenToControl a same is) =
+        (NotOpenToControl a same is, kept old new same)
+    controls descriptor command argument (IsControlled target a b same is) =
+        (IsControlled target a b same is, kept old new same)
 
     pub controls_device : (descriptor : ℕ) → ControlsDevice did descriptor old new answer
         → ControlsDevice (Allowed did old.is_read_only) descriptor old new answer
@@ -206,8 +211,8 @@ module _ {F : Type 0} (did : Did F) where
       (IsNoDescriptor a same is, kept old new same)
   copies_to old new answer descriptor to flags (NotOpenToCopyTo a same is) =
       (NotOpenToCopyTo a same is, kept old new same)
-  copies_to old new answer descriptor to flags (IsCopiedTo at closed mid a b c d e closing same is) =
+  copies_to old new answer descriptor to flags (IsCopiedTo target closed mid a b c d closing same is) =
       let before = closes old mid closed to closing in (
-        IsCopiedTo at closed mid a b c d e before.0 same is,
+        IsCopiedTo target closed mid a b c d before.0 same is,
         ap (λ files. files.is_read_only) same ∙ before.1,
       )

@@ -7,9 +7,9 @@ use Rattle.rrs_files.specs.declared.files.Files.{Files}
 use Rattle.rrs_files.specs.declared.requests.FileRequest.{FileRequest}
 use Rattle.rrs_files.specs.declared.statuses.Form.{Form}
 use Rattle.rrs_files.specs.Acts.{ChangesName, Opens, Renames, Tests}
-use Rattle.rrs_files.specs.Calls.{ByPath, IsDone, IsRefused, ByPaths, AreDone, FirstIsRefused, SecondIsRefused, DoesFile, ReadsFile, NotOpenToRead, ReadPassesEnd, ReadFailed, IsGiven, SeeksFile, NotOpenToSeek, IsFromNowhere, SeekFailed, IsMoved, ListsFile, NotOpenToList, IsNotListed, IsAtEnd, IsNotPut, IsListed, TellsFile, NotOpenToTell, TellFailed, IsTold, TellsBeside, IsOfFile, IsOfOpenStream, IsOfNoStream, IsOfNoFolder, IsOfFolder, TellsNamed, IsOfDescriptor, IsForbiddenPath, HasNoStatus, IsToldByName, ReadsLink, HasNoSize, IsForbiddenLink, IsNoLink, IsLink, SetsTimes, HasNoTimes, HasTimes}
+use Rattle.rrs_files.specs.Calls.{ByPath, IsDone, IsRefused, ByPaths, AreDone, FirstIsRefused, SecondIsRefused, DoesFile, ReadsFile, NotOpenToRead, ReadPassesEnd, ReadFailed, IsGiven, SeeksFile, NotOpenToSeek, IsFromNowhere, SeekFailed, IsMoved, ListsFile, NotOpenToList, IsNotListed, IsAtEnd, IsNotPut, IsListed, TellsFile, NotOpenToTell, TellFailed, IsTold, TellsBeside, IsOfFile, IsOfOpenStream, IsOfNoFolder, IsOfFolder, TellsNamed, IsOfDescriptor, IsForbiddenPath, HasNoStatus, IsToldByName, ReadsLink, HasNoSize, IsForbiddenLink, IsNoLink, IsLink, SetsTimes, HasNoTimes, HasTimes}
 use Rattle.rrs_files.specs.Events.{Allowed, Did}
-use Rattle.rrs_files.proofs.AllowedActs.{KeepsRight, changed, changes_name, closes, closes_stream, controls, controls_device, copies, copies_to, kept, opens, owns, renames, tests, walks}
+use Rattle.rrs_files.proofs.AllowedActs.{KeepsRight, changed, changes_name, closes, controls, controls_device, copies, copies_to, kept, opens, owns, renames, tests, walks}
 use Rattle.rrs_files.proofs.AllowedTransfers.{finds_link, free_to_write, moves_back, reads_directory, writes}
 use Rattle.rrs_files.proofs.AllowedVectors.{writes_pieces}
 
@@ -125,10 +125,8 @@ module _ {F : Type 0} (did : Did F) (writable : ℕ → Bool) (bytes bytes' : By
       old new answer xs × KeepsRight old new
   tells_beside beside a form xs (IsOfFile other here told) =
       let all = tells beside a form xs told in (IsOfFile other here all.0, all.1)
-  tells_beside beside a form xs (IsOfOpenStream low is same puts) =
-      (IsOfOpenStream low is same puts, kept old new same)
-  tells_beside beside a form xs (IsOfNoStream closed same is none e) =
-      (IsOfNoStream closed same is none e, kept old new same)
+  tells_beside beside a form xs (IsOfOpenStream stream is same puts) =
+      (IsOfOpenStream stream is same puts, kept old new same)
   tells_beside beside a form xs (IsOfNoFolder folder here told same is none) = (
     IsOfNoFolder folder here (told, λ h. tt) same is none,
     ap (λ files. files.is_read_only) same,
@@ -198,10 +196,8 @@ module _ {F : Type 0} (did : Did F) (writable : ℕ → Bool) (bytes bytes' : By
       (λ text. opens did old new answer text flags mode) does
   allowed (FileRequest.Close descriptor) xs does =
       let all = closes did old new answer descriptor does.0 in ((all.0, does.1, does.2), all.1)
-  allowed (FileRequest.CloseStream stream) xs does =
-      let all = closes_stream did old new answer stream does.0 in ((all.0, does.1, does.2), all.1)
   allowed (FileRequest.Copy descriptor) xs does =
-      let all = copies did old new answer descriptor does.0 in ((all.0, does.1, does.2), all.1)
+      let all = copies did old new answer descriptor 0 does.0 in ((all.0, does.1, does.2), all.1)
   allowed (FileRequest.CopyTo descriptor to flags) xs does =
       let all = copies_to did old new answer descriptor to flags does.0 in
       ((all.0, does.1, does.2), all.1)

@@ -1,5 +1,5 @@
 -- Buffers that are written to a file, and calls that read a path first.
-use Rattle.std.proofs.Common.{◌≡◌, ℕ, ◌+◌, ◌<◌, ◌≤◌, min, Bool, List, ◌++◌, length, Option, None, refl, sym, subst, ap, ◌∙◌, inl, inr, arith}
+use Rattle.std.proofs.Common.{◌≡◌, ℕ, ◌+◌, ◌<◌, ◌≤◌, min, Bool, List, ◌++◌, length, Option, None, subst, ap, ◌∙◌, inl, inr, arith}
 use Rattle.std.proofs.lemmas.Bool.{cases_lt}
 use Rattle.rrs_lib.specs.declared.MemAccessSize.{MemAccessSize}
 use Rattle.rrs_lib.specs.Bytes.{ByteMap}

@@ -1,6 +1,6 @@
 -- What the calls that put nothing into memory do to the files of a program, where the path is read
 -- and allowed: which calls of the host are made, in order, and with which path. No other is made.
-use Rattle.std.specs.Prelude.{◌≡◌, ◌≢◌, ◌⊎◌, ℕ, ◌+◌, ◌-◌, ◌*◌, ◌<◌, ◌≤◌, ◌==◌, ◌&&◌, ◌||◌, not, bit_and, if◌then◌else◌, List, Bool, true, false, set, slice_index_or, Option, Some, None, unwrap_or, Ok, Err}
+use Rattle.std.specs.Prelude.{◌≡◌, ◌≢◌, ◌⊎◌, ℕ, ◌*◌, ◌<◌, ◌≤◌, ◌==◌, ◌&&◌, ◌||◌, not, bit_and, if◌then◌else◌, List, Bool, true, false, set, slice_index_or, Option, Some, None, unwrap_or, Ok, Err}
 use Rattle.rrs_linux.specs.Requests.{error}
 use Rattle.rrs_files.specs.declared.files.Files.{Files}
 use Rattle.rrs_files.specs.declared.folder.Status.{Status}
@@ -9,7 +9,9 @@ use Rattle.rrs_files.specs.declared.folder.How.{How}
 use Rattle.rrs_files.specs.declared.folder.NameChange.{NameChange}
 use Rattle.rrs_files.specs.declared.paths.Named.{Named}
 use Rattle.rrs_files.specs.declared.paths.Named.TheVariants.{There, Missing, Stopped}
-use Rattle.rrs_files.specs.Descriptors.{AreUsed, IsOpen, IsClosed, IsFirstFree, IsFull, IsUnused, IsUsed, is_closed_stream, kept_flags}
+use Rattle.rrs_files.specs.declared.descriptors.Target.{Target}
+use Rattle.rrs_files.specs.declared.descriptors.Target.TheVariants.{File, Stream}
+use Rattle.rrs_files.specs.Descriptors.{AreUsed, HasTarget, IsOpen, IsClosed, IsFree, IsFirstFree, IsFull, IsUnused, IsUsed, kept_flags}
 use Rattle.rrs_files.specs.Events.{Did, Opened, Closed, Told, Changed, NameChanged, Renamed}
 use Rattle.rrs_files.specs.Paths.{Walks, kind}
 use Rattle.rrs_files.specs.Requests.{how_of, not_served, changes}
@@ -95,10 +97,9 @@ control_answer flags command argument =
     else (if (command == 4) && (bit_and argument 0x400 == bit_and flags 0x400) then 0
     else error 22))
 
--- how a stream is open: the input to be read (O_RDONLY is 0), the others to be written (O_WRONLY is
--- 1)
-abbrev pub stream_flags : ℕ → ℕ
-stream_flags descriptor = if descriptor == 0 then 0 else 1
+-- F_DUPFD is 0, and F_DUPFD_CLOEXEC 1030
+abbrev pub copies : (command : ℕ) → Bool
+copies command = (command == 0) || (command == 1030)
 
 -- an owner or a group stays the one it is: it is that, or -1
 abbrev pub keeps : (wanted present : ℕ) → Bool
@@ -123,7 +124,7 @@ module _ {F : Type 0} (did : Did F) where
         → new ≡ old → answer ≡ error 30 → Opens path flags mode old new answer
     HasNoPlace :
         not_served flags ≡ false → (old.is_read_only && changes (how_of flags mode)) ≡ false
-        → IsFull old.descriptors.files ⊎ AreUsed old.descriptors.files
+        → IsFull old.descriptors.targets 0 ⊎ AreUsed old.descriptors.targets
         → new ≡ old → answer ≡ error 24 → Opens path flags mode old new answer
     IsRefused : (named : Named) (folder : F)
         → not_served flags ≡ false → (old.is_read_only && changes (how_of flags mode)) ≡ false
@@ -131,103 +132,102 @@ module _ {F : Type 0} (did : Did F) where
         → new ≡ record old { folder = folder } → Opens path flags mode old new answer
     HasFailed : (named : Named) (place at : ℕ) (mid folder : F)
         → not_served flags ≡ false → (old.is_read_only && changes (how_of flags mode)) ≡ false
-        → IsFirstFree old.descriptors.files place → IsUnused old.descriptors.files at
+        → IsFirstFree old.descriptors.targets 0 place → IsUnused old.descriptors.targets at
         → Walks did path old.folder mid named → opening named (how_of flags mode) ≡ None
         → did mid (Opened at path (how_of flags mode) (Some answer)) folder
         → new ≡ record old { folder = folder } → Opens path flags mode old new answer
     IsOpened : (named : Named) (place at : ℕ) (mid folder : F)
         → not_served flags ≡ false → (old.is_read_only && changes (how_of flags mode)) ≡ false
-        → IsFirstFree old.descriptors.files place → IsUnused old.descriptors.files at
+        → IsFirstFree old.descriptors.targets 0 place → IsUnused old.descriptors.targets at
         → Walks did path old.folder mid named → opening named (how_of flags mode) ≡ None
         → did mid (Opened at path (how_of flags mode) None) folder
         → new ≡ record old {
           folder = folder;
           descriptors = record {
-            files = set old.descriptors.files place (Some at);
+            targets = set old.descriptors.targets place (Some (File at));
             flags = set old.descriptors.flags place (kept_flags flags);
-            are_closed = old.descriptors.are_closed;
           };
         }
-        → answer ≡ place + 3 → Opens path flags mode old new answer
+        → answer ≡ place → Opens path flags mode old new answer
+
+  -- the file of a number is closed, unless a descriptor has it
+  pub data Leaves (at : ℕ) (old new : Files F) : Type 0 where
+    IsLeft : (folder : F)
+        → (IsUsed old.descriptors.targets (File at) → ⊥) → did old.folder (Closed at) folder
+        → new ≡ record old { folder = folder } → Leaves at old new
+    IsStillUsed : IsUsed old.descriptors.targets (File at) → new ≡ old → Leaves at old new
 
   -- close: the file of the descriptor, and no other
   pub data Closes (descriptor : ℕ) (old new : Files F) (answer : ℕ) : Type 0 where
-    IsClosedNow : (at : ℕ) (left : List (Option ℕ)) (folder : F)
-        → IsOpen old.descriptors.files descriptor at
-        → left ≡ set old.descriptors.files (descriptor - 3) None → (IsUsed left at → ⊥)
-        → did old.folder (Closed at) folder
-        → new ≡ record old {
-          folder = folder;
-          descriptors = record old.descriptors { files = left };
+    IsClosedNow : (at : ℕ) (mid : Files F)
+        → IsOpen old.descriptors.targets descriptor at
+        → mid ≡ record old {
+          descriptors = record old.descriptors {
+            targets = set old.descriptors.targets descriptor None;
+          };
         }
-        → answer ≡ 0 → Closes descriptor old new answer
-    -- another descriptor has the file too, which stays open
-    IsStillOpen : (at : ℕ) (left : List (Option ℕ))
-        → IsOpen old.descriptors.files descriptor at
-        → left ≡ set old.descriptors.files (descriptor - 3) None → IsUsed left at
-        → new ≡ record old { descriptors = record old.descriptors { files = left } }
+        → Leaves at mid new → answer ≡ 0 → Closes descriptor old new answer
+    -- a standard stream stays where it is
+    WasStream : (stream : ℕ)
+        → HasTarget old.descriptors.targets descriptor (Stream stream)
+        → new ≡ record old {
+          descriptors = record old.descriptors {
+            targets = set old.descriptors.targets descriptor None;
+          };
+        }
         → answer ≡ 0 → Closes descriptor old new answer
     -- EBADF is 9
     WasClosed :
-        IsClosed old.descriptors.files descriptor → new ≡ old → answer ≡ error 9
+        IsFree old.descriptors.targets descriptor → new ≡ old → answer ≡ error 9
         → Closes descriptor old new answer
 
-  -- close of a standard stream, which is open until the program closes it
-  pub data ClosesStream (stream : ℕ) (old new : Files F) (answer : ℕ) : Type 0 where
-    IsNoOpenStream :
-        (2 < stream) ⊎ (is_closed_stream old.descriptors.are_closed stream ≡ true)
-        → new ≡ old → answer ≡ error 9 → ClosesStream stream old new answer
-    IsClosedStream :
-        stream ≤ 2 → is_closed_stream old.descriptors.are_closed stream ≡ false
-        → new ≡ record old {
-          descriptors = record old.descriptors {
-            are_closed = set old.descriptors.are_closed stream true;
-          };
-        }
-        → answer ≡ 0 → ClosesStream stream old new answer
-
-  -- dup: the first descriptor that is free has the same file, which is opened no second time, so
-  -- that both share its position. No call of the host is made
-  pub data Copies (descriptor : ℕ) (old new : Files F) (answer : ℕ) : Type 0 where
-    IsCopied : (at place : ℕ)
-        → IsOpen old.descriptors.files descriptor at → IsFirstFree old.descriptors.files place
+  -- dup, and F_DUPFD of fcntl64: the first descriptor from a least one on that is free has the same
+  -- file, which is opened no second time, so that both share its position, or the same stream. No
+  -- call of the host is made
+  pub data Copies (descriptor least : ℕ) (old new : Files F) (answer : ℕ) : Type 0 where
+    IsCopied : (target : Target) (place : ℕ)
+        → HasTarget old.descriptors.targets descriptor target
+        → IsFirstFree old.descriptors.targets least place
         → new ≡ record old {
           descriptors = record {
-            files = set old.descriptors.files place (Some at);
+            targets = set old.descriptors.targets place (Some target);
             flags = set old.descriptors.flags place
-                (kept_flags (slice_index_or old.descriptors.flags (descriptor - 3) 0));
-            are_closed = old.descriptors.are_closed;
+                (kept_flags (slice_index_or old.descriptors.flags descriptor 0));
           };
         }
-        → answer ≡ place + 3 → Copies descriptor old new answer
-    HasNoPlaceToCopy : (at : ℕ)
-        → IsOpen old.descriptors.files descriptor at → IsFull old.descriptors.files
-        → new ≡ old → answer ≡ error 24 → Copies descriptor old new answer
+        → answer ≡ place → Copies descriptor least old new answer
+    -- EMFILE is 24
+    HasNoPlaceToCopy : (target : Target)
+        → HasTarget old.descriptors.targets descriptor target
+        → least < 67 → IsFull old.descriptors.targets least
+        → new ≡ old → answer ≡ error 24 → Copies descriptor least old new answer
+    -- EINVAL is 22
+    HasNoLeast : (target : Target)
+        → HasTarget old.descriptors.targets descriptor target → 67 ≤ least
+        → new ≡ old → answer ≡ error 22 → Copies descriptor least old new answer
     NotOpenToCopy :
-        IsClosed old.descriptors.files descriptor → new ≡ old → answer ≡ error 9
-        → Copies descriptor old new answer
+        IsFree old.descriptors.targets descriptor → new ≡ old → answer ≡ error 9
+        → Copies descriptor least old new answer
 
-  -- dup3: this descriptor has the same file, after it was closed, if it was open. The flags may
-  -- have O_CLOEXEC (0x80000)
+  -- dup3: this descriptor has the same, after it was closed, if it was open. The flags may have
+  -- O_CLOEXEC (0x80000)
   pub data CopiesTo (descriptor to flags : ℕ) (old new : Files F) (answer : ℕ) : Type 0 where
     HasBadFlags :
         (descriptor ≡ to) ⊎ (bit_and flags 0xfff7ffff ≢ 0) → new ≡ old → answer ≡ error 22
         → CopiesTo descriptor to flags old new answer
     IsNoDescriptor :
-        (to < 3) ⊎ (67 ≤ to) → new ≡ old → answer ≡ error 9
-        → CopiesTo descriptor to flags old new answer
+        67 ≤ to → new ≡ old → answer ≡ error 9 → CopiesTo descriptor to flags old new answer
     NotOpenToCopyTo :
-        IsClosed old.descriptors.files descriptor → new ≡ old → answer ≡ error 9
+        IsFree old.descriptors.targets descriptor → new ≡ old → answer ≡ error 9
         → CopiesTo descriptor to flags old new answer
-    IsCopiedTo : (at closed : ℕ) (mid : Files F)
-        → descriptor ≢ to → bit_and flags 0xfff7ffff ≡ 0 → 3 ≤ to → to < 67
-        → IsOpen old.descriptors.files descriptor at → Closes to old mid closed
+    IsCopiedTo : (target : Target) (closed : ℕ) (mid : Files F)
+        → descriptor ≢ to → bit_and flags 0xfff7ffff ≡ 0 → to < 67
+        → HasTarget old.descriptors.targets descriptor target → Closes to old mid closed
         → new ≡ record mid {
           descriptors = record {
-            files = set mid.descriptors.files (to - 3) (Some at);
-            flags = set mid.descriptors.flags (to - 3)
-                (kept_flags (slice_index_or old.descriptors.flags (descriptor - 3) 0));
-            are_closed = mid.descriptors.are_closed;
+            targets = set mid.descriptors.targets to (Some target);
+            flags = set mid.descriptors.flags to
+                (kept_flags (slice_index_or old.descriptors.flags descriptor 0));
           };
         }
         → answer ≡ to → CopiesTo descriptor to flags old new answer
@@ -235,14 +235,14 @@ module _ {F : Type 0} (did : Did F) where
   -- ftruncate64, fsync, fdatasync and fchmod: the file of the descriptor, and no other
   pub data Changes (descriptor : ℕ) (change : Change) (old new : Files F) (answer : ℕ) : Type 0 where
     NotOpenToChange :
-        IsClosed old.descriptors.files descriptor → new ≡ old → answer ≡ error 9
+        IsClosed old.descriptors.targets descriptor → new ≡ old → answer ≡ error 9
         → Changes descriptor change old new answer
     MayNotChange : (place : ℕ)
-        → IsOpen old.descriptors.files descriptor place
+        → IsOpen old.descriptors.targets descriptor place
         → withholding old.is_read_only change ≡ Some answer
         → new ≡ old → Changes descriptor change old new answer
     IsChanged : (place : ℕ) (folder : F) (failed : Option ℕ)
-        → IsOpen old.descriptors.files descriptor place
+        → IsOpen old.descriptors.targets descriptor place
         → withholding old.is_read_only change ≡ None
         → did old.folder (Changed place change failed) folder
         → new ≡ record old { folder = folder } → answer ≡ unwrap_or failed 0
@@ -251,14 +251,14 @@ module _ {F : Type 0} (did : Did F) where
   -- fchown: no owner is changed, but the file of the descriptor may have this one
   pub data Owns (descriptor owner group : ℕ) (old new : Files F) (answer : ℕ) : Type 0 where
     NotOpenToOwn :
-        IsClosed old.descriptors.files descriptor → new ≡ old → answer ≡ error 9
+        IsClosed old.descriptors.targets descriptor → new ≡ old → answer ≡ error 9
         → Owns descriptor owner group old new answer
     HasNoOwner : (place : ℕ) (folder : F)
-        → IsOpen old.descriptors.files descriptor place
+        → IsOpen old.descriptors.targets descriptor place
         → did old.folder (Told place (Err answer)) folder
         → new ≡ record old { folder = folder } → Owns descriptor owner group old new answer
     HasOwner : (place : ℕ) (folder : F) (status : Status)
-        → IsOpen old.descriptors.files descriptor place
+        → IsOpen old.descriptors.targets descriptor place
         → did old.folder (Told place (Ok status)) folder
         → new ≡ record old { folder = folder } → answer ≡ owning status owner group
         → Owns descriptor owner group old new answer
@@ -311,28 +311,24 @@ module _ {F : Type 0} (did : Did F) where
   -- fcntl64 on a descriptor
   pub data Controls (descriptor command argument : ℕ) (old new : Files F) (answer : ℕ)
       : Type 0 where
-    IsOfClosedStream :
-        is_closed_stream old.descriptors.are_closed descriptor ≡ true
-        → new ≡ old → answer ≡ error 9 → Controls descriptor command argument old new answer
-    IsOfStream :
-        descriptor ≤ 2 → is_closed_stream old.descriptors.are_closed descriptor ≡ false
-        → new ≡ old
-        → answer ≡ control_answer (stream_flags descriptor) command argument
+    IsCopying :
+        copies command ≡ true → Copies descriptor argument old new answer
         → Controls descriptor command argument old new answer
     NotOpenToControl :
-        2 < descriptor → IsClosed old.descriptors.files descriptor
-        → new ≡ old → answer ≡ error 9 → Controls descriptor command argument old new answer
-    IsControlled : (place : ℕ)
-        → IsOpen old.descriptors.files descriptor place → new ≡ old
+        IsFree old.descriptors.targets descriptor → new ≡ old → answer ≡ error 9
+        → Controls descriptor command argument old new answer
+    IsControlled : (target : Target)
+        → HasTarget old.descriptors.targets descriptor target → copies command ≡ false
+        → new ≡ old
         → answer
-        ≡ control_answer (slice_index_or old.descriptors.flags (descriptor - 3) 0) command argument
+        ≡ control_answer (slice_index_or old.descriptors.flags descriptor 0) command argument
         → Controls descriptor command argument old new answer
 
   -- ioctl on a file or a directory, which is no terminal (ENOTTY is 25)
   pub data ControlsDevice (descriptor : ℕ) (old new : Files F) (answer : ℕ) : Type 0 where
     NotOpenToControlDevice :
-        IsClosed old.descriptors.files descriptor → new ≡ old → answer ≡ error 9
+        IsClosed old.descriptors.targets descriptor → new ≡ old → answer ≡ error 9
         → ControlsDevice descriptor old new answer
     IsNoTerminal : (place : ℕ)
-        → IsOpen old.descriptors.files descriptor place → new ≡ old → answer ≡ error 25
+        → IsOpen old.descriptors.targets descriptor place → new ≡ old → answer ≡ error 25
         → ControlsDevice descriptor old new answer

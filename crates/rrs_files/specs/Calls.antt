@@ -5,7 +5,7 @@ use Rattle.std.specs.Prelude.{◌≡◌, ◌≢◌, ◌⊎◌, ℕ, ◌+◌, ◌
 use Rattle.std.specs.Int.{to_le_bytes, w64}
 use Rattle.rrs_lib.specs.Bytes.{ByteMap, little_endian}
 use Rattle.rrs_lib.specs.AccessLists.{Access}
-use Rattle.rrs_lib.specs.Machine.{State, reg}
+use Rattle.rrs_lib.specs.Machine.{State}
 use Rattle.rrs_fast.specs.Serving.{Relation}
 use Rattle.rrs_linux.specs.Giving.{GivesText}
 use Rattle.rrs_linux.specs.Requests.{error}
@@ -25,12 +25,12 @@ use Rattle.rrs_files.specs.declared.pieces.OpenFile.{OpenFile}
 use Rattle.rrs_files.specs.declared.requests.FileRequest.{FileRequest}
 use Rattle.rrs_files.specs.declared.serving.WithFiles.{WithFiles}
 use Rattle.rrs_files.specs.declared.statuses.Form.{Form}
-use Rattle.rrs_files.specs.Acts.{Opens, Closes, ClosesStream, Copies, CopiesTo, Changes, Owns, ChangesName, Renames, Tests, Controls, ControlsDevice}
-use Rattle.rrs_files.specs.Descriptors.{IsOpen, IsClosed, is_closed_stream, may_write}
+use Rattle.rrs_files.specs.Acts.{Opens, Closes, Copies, CopiesTo, Changes, Owns, ChangesName, Renames, Tests, Controls, ControlsDevice}
+use Rattle.rrs_files.specs.Descriptors.{IsOpen, IsClosed, may_write, stream_at, stream_of}
 use Rattle.rrs_files.specs.Entries.{ReadsDirectory}
 use Rattle.rrs_files.specs.Events.{Allowed, Did, Gave, LinkTold, Looked, Took, Sought, Told}
 use Rattle.rrs_files.specs.Paths.{IsText, IsAllowed, IsForbidden, Walks, kind}
-use Rattle.rrs_files.specs.Requests.{AsksFile}
+use Rattle.rrs_files.specs.Requests.{AsksFile, descriptor_in}
 use Rattle.rrs_files.specs.Statuses.{stream_bytes, told_bytes}
 
 -- the most bytes of a file that one call reads or writes
@@ -173,26 +173,26 @@ module _ {F : Type 0} (did : Did F) (bytes : ByteMap) where
   pub data WritesFile (descriptor : ℕ) (from : Option ℕ) (a count : ℕ) (old new : Files F)
       (answer : ℕ) (accesses : List Access) : Type 0 where
     NotOpenToWrite :
-        IsClosed old.descriptors.files descriptor
+        IsClosed old.descriptors.targets descriptor
         → new ≡ old → accesses ≡ [] → answer ≡ error 9
         → WritesFile descriptor from a count old new answer accesses
     MayNotWrite : (place : ℕ)
-        → IsOpen old.descriptors.files descriptor place → refuses_write old descriptor ≡ true
+        → IsOpen old.descriptors.targets descriptor place → refuses_write old descriptor ≡ true
         → new ≡ old → accesses ≡ [] → answer ≡ error 9
         → WritesFile descriptor from a count old new answer accesses
     WritePassesEnd : (place : ℕ)
-        → IsOpen old.descriptors.files descriptor place → refuses_write old descriptor ≡ false
+        → IsOpen old.descriptors.targets descriptor place → refuses_write old descriptor ≡ false
         → 2 ^ 32 < a + count
         → new ≡ old → accesses ≡ [] → answer ≡ error 14
         → WritesFile descriptor from a count old new answer accesses
     -- the first byte is not mapped
     IsUnmapped : (place : ℕ)
-        → IsOpen old.descriptors.files descriptor place → refuses_write old descriptor ≡ false
+        → IsOpen old.descriptors.targets descriptor place → refuses_write old descriptor ≡ false
         → a + count ≤ 2 ^ 32 → 0 < count → bytes a ≡ None
         → new ≡ old → accesses ≡ byte_reads bytes a 1 → answer ≡ error 14
         → WritesFile descriptor from a count old new answer accesses
     IsWritten : (place : ℕ) (folder : F) (text : List ℕ) (reads : ℕ) (taken : Result ℕ ℕ)
-        → IsOpen old.descriptors.files descriptor place → refuses_write old descriptor ≡ false
+        → IsOpen old.descriptors.targets descriptor place → refuses_write old descriptor ≡ false
         → a + count ≤ 2 ^ 32 → Stands bytes a text
         → ReadsBuffer bytes a (min count most_of_file) text reads
         → did old.folder (Took place from text taken) folder
@@ -215,15 +215,15 @@ takes_lent did bytes a count old new answer accesses =
 pub data WritesFilePieces {F : Type 0} (did : Did F) (bytes : ByteMap) (descriptor a count : ℕ)
     (old new : Files F) (answer : ℕ) (accesses : List Access) : Type 0 where
   NotOpenToWritePieces :
-      IsClosed old.descriptors.files descriptor → new ≡ old → accesses ≡ [] → answer ≡ error 9
+      IsClosed old.descriptors.targets descriptor → new ≡ old → accesses ≡ [] → answer ≡ error 9
       → WritesFilePieces did bytes descriptor a count old new answer accesses
   -- the vector is not looked at
   MayNotWritePieces : (place : ℕ)
-      → IsOpen old.descriptors.files descriptor place → refuses_write old descriptor ≡ true
+      → IsOpen old.descriptors.targets descriptor place → refuses_write old descriptor ≡ true
       → new ≡ old → accesses ≡ [] → answer ≡ error 9
       → WritesFilePieces did bytes descriptor a count old new answer accesses
   ArePiecesWritten : (place : ℕ)
-      → IsOpen old.descriptors.files descriptor place → refuses_write old descriptor ≡ false
+      → IsOpen old.descriptors.targets descriptor place → refuses_write old descriptor ≡ false
       → WritesVector (takes_of_file did descriptor) bytes a count old new answer accesses
       → WritesFilePieces did bytes descriptor a count old new answer accesses
 
@@ -265,21 +265,21 @@ module _ {F : Type 0} (did : Did F) (writable : ℕ → Bool) (bytes bytes' : By
       (answer : ℕ) (accesses : List Access) : Type 0 where
     -- EBADF is 9, and EFAULT 14
     NotOpenToRead :
-        IsClosed old.descriptors.files descriptor
+        IsClosed old.descriptors.targets descriptor
         → new ≡ old → bytes' ≡ bytes → accesses ≡ [] → answer ≡ error 9
         → ReadsFile descriptor from a count old new answer accesses
     ReadPassesEnd : (place : ℕ)
-        → IsOpen old.descriptors.files descriptor place → 2 ^ 32 < a + count
+        → IsOpen old.descriptors.targets descriptor place → 2 ^ 32 < a + count
         → new ≡ old → bytes' ≡ bytes → accesses ≡ [] → answer ≡ error 14
         → ReadsFile descriptor from a count old new answer accesses
     ReadFailed : (place : ℕ) (folder : F)
-        → IsOpen old.descriptors.files descriptor place → a + count ≤ 2 ^ 32
+        → IsOpen old.descriptors.targets descriptor place → a + count ≤ 2 ^ 32
         → did old.folder (Gave place from (min count most_of_file) (Err answer)) folder
         → new ≡ record old { folder = folder } → bytes' ≡ bytes → accesses ≡ []
         → ReadsFile descriptor from a count old new answer accesses
     -- those that find no room are the next still
     IsGiven : (place : ℕ) (mid folder : F) (text left : List ℕ)
-        → IsOpen old.descriptors.files descriptor place → a + count ≤ 2 ^ 32
+        → IsOpen old.descriptors.targets descriptor place → a + count ≤ 2 ^ 32
         → did old.folder (Gave place from (min count most_of_file) (Ok text)) mid
         → GivesText writable bytes bytes' a (min count most_of_file) text left answer accesses
         → MovesBack did place from (length left) mid folder
@@ -290,21 +290,21 @@ module _ {F : Type 0} (did : Did F) (writable : ℕ → Bool) (bytes bytes' : By
   pub data SeeksFile (descriptor offset from a : ℕ) (old new : Files F) (answer : ℕ)
       (accesses : List Access) : Type 0 where
     NotOpenToSeek :
-        IsClosed old.descriptors.files descriptor
+        IsClosed old.descriptors.targets descriptor
         → new ≡ old → bytes' ≡ bytes → accesses ≡ [] → answer ≡ error 9
         → SeeksFile descriptor offset from a old new answer accesses
     -- EINVAL is 22
     IsFromNowhere : (place : ℕ)
-        → IsOpen old.descriptors.files descriptor place → 2 < from
+        → IsOpen old.descriptors.targets descriptor place → 2 < from
         → new ≡ old → bytes' ≡ bytes → accesses ≡ [] → answer ≡ error 22
         → SeeksFile descriptor offset from a old new answer accesses
     SeekFailed : (place : ℕ) (folder : F)
-        → IsOpen old.descriptors.files descriptor place → from ≤ 2
+        → IsOpen old.descriptors.targets descriptor place → from ≤ 2
         → did old.folder (Sought place from offset (Err answer)) folder
         → new ≡ record old { folder = folder } → bytes' ≡ bytes → accesses ≡ []
         → SeeksFile descriptor offset from a old new answer accesses
     IsMoved : (place position : ℕ) (folder : F)
-        → IsOpen old.descriptors.files descriptor place → from ≤ 2
+        → IsOpen old.descriptors.targets descriptor place → from ≤ 2
         → did old.folder (Sought place from offset (Ok position)) folder
         → new ≡ record old { folder = folder }
         → PutsBytes writable bytes bytes' a (to_le_bytes w64 position) accesses answer
@@ -315,29 +315,29 @@ module _ {F : Type 0} (did : Did F) (writable : ℕ → Bool) (bytes bytes' : By
   pub data ListsFile (descriptor a count : ℕ) (old new : Files F) (answer : ℕ)
       (accesses : List Access) : Type 0 where
     NotOpenToList :
-        IsClosed old.descriptors.files descriptor
+        IsClosed old.descriptors.targets descriptor
         → new ≡ old → bytes' ≡ bytes → accesses ≡ [] → answer ≡ error 9
         → ListsFile descriptor a count old new answer accesses
     IsNotListed : (place : ℕ) (folder : F) (text : List ℕ)
-        → IsOpen old.descriptors.files descriptor place
+        → IsOpen old.descriptors.targets descriptor place
         → ReadsDirectory did place count old.folder folder text (Err answer)
         → new ≡ record old { folder = folder } → bytes' ≡ bytes → accesses ≡ []
         → ListsFile descriptor a count old new answer accesses
     -- there are no more
     IsAtEnd : (place next : ℕ) (folder : F)
-        → IsOpen old.descriptors.files descriptor place
+        → IsOpen old.descriptors.targets descriptor place
         → ReadsDirectory did place count old.folder folder [] (Ok next)
         → new ≡ record old { folder = folder } → bytes' ≡ bytes → accesses ≡ [] → answer ≡ 0
         → ListsFile descriptor a count old new answer accesses
     -- the next call gives them once more
     IsNotPut : (place next : ℕ) (folder : F) (text : List ℕ)
-        → IsOpen old.descriptors.files descriptor place
+        → IsOpen old.descriptors.targets descriptor place
         → ReadsDirectory did place count old.folder folder text (Ok next)
         → new ≡ record old { folder = folder }
         → PutsBytes writable bytes bytes' a text accesses answer → answer ≢ 0
         → ListsFile descriptor a count old new answer accesses
     IsListed : (place next : ℕ) (mid folder : F) (text : List ℕ) (moved : Result ℕ ℕ)
-        → IsOpen old.descriptors.files descriptor place
+        → IsOpen old.descriptors.targets descriptor place
         → ReadsDirectory did place count old.folder mid text (Ok next) → 0 < length text
         → PutsBytes writable bytes bytes' a text accesses 0
         → did mid (Sought place 0 next moved) folder
@@ -348,16 +348,16 @@ module _ {F : Type 0} (did : Did F) (writable : ℕ → Bool) (bytes bytes' : By
   pub data TellsFile (descriptor a : ℕ) (form : Form) (old new : Files F) (answer : ℕ) (accesses : List Access)
       : Type 0 where
     NotOpenToTell :
-        IsClosed old.descriptors.files descriptor
+        IsClosed old.descriptors.targets descriptor
         → new ≡ old → bytes' ≡ bytes → accesses ≡ [] → answer ≡ error 9
         → TellsFile descriptor a form old new answer accesses
     TellFailed : (place : ℕ) (folder : F)
-        → IsOpen old.descriptors.files descriptor place
+        → IsOpen old.descriptors.targets descriptor place
         → did old.folder (Told place (Err answer)) folder
         → new ≡ record old { folder = folder } → bytes' ≡ bytes → accesses ≡ []
         → TellsFile descriptor a form old new answer accesses
     IsTold : (place : ℕ) (folder : F) (status : Status)
-        → IsOpen old.descriptors.files descriptor place
+        → IsOpen old.descriptors.targets descriptor place
         → did old.folder (Told place (Ok status)) folder
         → new ≡ record old { folder = folder }
         → PutsBytes writable bytes bytes' a (told_bytes form status) accesses answer
@@ -369,15 +369,12 @@ module _ {F : Type 0} (did : Did F) (writable : ℕ → Bool) (bytes bytes' : By
   pub data TellsBeside (beside a : ℕ) (form : Form) (old new : Files F) (answer : ℕ)
       (accesses : List Access) : Type 0 where
     IsOfFile :
-        2 < beside → beside ≢ error 100 → TellsFile beside a form old new answer accesses
+        stream_at old.descriptors.targets beside ≡ None → beside ≢ error 100
+        → TellsFile beside a form old new answer accesses
         → TellsBeside beside a form old new answer accesses
-    IsOfOpenStream :
-        beside ≤ 2 → is_closed_stream old.descriptors.are_closed beside ≡ false → new ≡ old
+    IsOfOpenStream : (stream : ℕ)
+        → stream_at old.descriptors.targets beside ≡ Some stream → new ≡ old
         → PutsBytes writable bytes bytes' a (stream_bytes form) accesses answer
-        → TellsBeside beside a form old new answer accesses
-    IsOfNoStream :
-        is_closed_stream old.descriptors.are_closed beside ≡ true
-        → new ≡ old → bytes' ≡ bytes → accesses ≡ [] → answer ≡ error 9
         → TellsBeside beside a form old new answer accesses
     IsOfNoFolder : (folder : F)
         → beside ≡ error 100 → did old.folder (Looked [] (Err answer)) folder
@@ -455,10 +452,8 @@ module _ {F : Type 0} (did : Did F) (writable : ℕ → Bool) (bytes bytes' : By
       ByPath (λ text. Opens did text flags mode) beside path old new answer accesses
   DoesFile (FileRequest.Close descriptor) old new answer accesses =
       Closes did descriptor old new answer × (bytes' ≡ bytes) × (accesses ≡ [])
-  DoesFile (FileRequest.CloseStream stream) old new answer accesses =
-      ClosesStream did stream old new answer × (bytes' ≡ bytes) × (accesses ≡ [])
   DoesFile (FileRequest.Copy descriptor) old new answer accesses =
-      Copies did descriptor old new answer × (bytes' ≡ bytes) × (accesses ≡ [])
+      Copies did descriptor 0 old new answer × (bytes' ≡ bytes) × (accesses ≡ [])
   DoesFile (FileRequest.CopyTo descriptor to flags) old new answer accesses =
       CopiesTo did descriptor to flags old new answer × (bytes' ≡ bytes) × (accesses ≡ [])
   DoesFile (FileRequest.Seek descriptor offset from a) old new answer accesses =
@@ -506,36 +501,31 @@ module _ {F : Type 0} (did : Did F) (writable : ℕ → Bool) (bytes bytes' : By
   DoesFile (FileRequest.Refused said) old new answer accesses =
       (new ≡ old) × (bytes' ≡ bytes) × (accesses ≡ []) × (answer ≡ said)
 
--- read, write, writev, fstat64, _llseek and ioctl
-abbrev pub is_of_stream : ℕ → Bool
-is_of_stream call =
-    (call == 63) || (call == 64) || (call == 66) || (call == 80) || (call == 62) || (call == 29)
-
--- such a call on a standard stream that the program closed
-abbrev pub asks_closed : State → List Bool → Bool
-asks_closed s are_closed = is_closed_stream are_closed (reg s 10) && is_of_stream (reg s 17)
+-- the standard stream that a call reads, writes or asks, if it is one on a stream
+abbrev pub stream_asked : FileRequest → Descriptors → Option ℕ
+stream_asked request descriptors = stream_of descriptors.targets (descriptor_in request)
 
 -- What a call does: it is one for the files, which the machine goes on after, with the answer in
 -- a0, and of which each call of the host changes nothing where files may only be read; or it is one
--- on a stream that the program closed; or it is for the other environment, and the files stay.
+-- on a standard stream, which the other environment serves as one on the stream's own descriptor; or
+-- it is another, for that environment. Then the files stay.
 pub data ServesFiles {P F : Type 0} (serves : Relation P) (did : Did F) (old : WithFiles P F)
     (s : State) (new : WithFiles P F) (t : State) (accesses : List Access) (end : Option ℕ)
     : Type 0 where
   IsFile : (request : FileRequest) (bytes : ByteMap) (answer : ℕ)
-      → AsksFile s (Some request)
+      → AsksFile s (Some request) → stream_asked request old.files.descriptors ≡ None
       → DoesFile (Allowed did old.files.is_read_only) s.writable s.bytes bytes request
       old.files new.files answer accesses
       → new.files.is_read_only ≡ old.files.is_read_only
       → t ≡ answered (record s { bytes = bytes }) answer → end ≡ None
       → new.process.now ≡ old.process.now
       → ServesFiles serves did old s new t accesses end
-  -- EBADF is 9
-  IsOfClosed :
-      AsksFile s None → asks_closed s old.files.descriptors.are_closed ≡ true
-      → t ≡ answered s (error 9) → accesses ≡ [] → end ≡ None
-      → new.process.now ≡ old.process.now → new.files ≡ old.files
+  IsOnStream : (request : FileRequest) (stream : ℕ)
+      → AsksFile s (Some request) → stream_asked request old.files.descriptors ≡ Some stream
+      → serves old.process.now (answered s stream) new.process.now t accesses end
+      → new.files ≡ old.files
       → ServesFiles serves did old s new t accesses end
   IsOther :
-      AsksFile s None → asks_closed s old.files.descriptors.are_closed ≡ false
+      AsksFile s None
       → serves old.process.now s new.process.now t accesses end → new.files ≡ old.files
       → ServesFiles serves did old s new t accesses end

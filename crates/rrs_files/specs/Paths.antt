@@ -1,7 +1,7 @@
 -- The paths of a program (path_resolution(7)): the bytes of its memory up to a 0, names between
 -- slashes. The folder is the program's root and its working directory. A path may not have the name
 -- "..", and none of its parts may be a link.
-use Rattle.std.specs.Prelude.{◌≡◌, ◌≢◌, ◌⊎◌, ℕ, ◌+◌, ◌-◌, ◌^◌, ◌<◌, ◌≤◌, ◌==◌, bit_and, if◌then◌else◌, true, false, List, [], length, take, slice_index, Option, Some, None, Result, Ok, Err}
+use Rattle.std.specs.Prelude.{◌≡◌, ◌≢◌, ◌⊎◌, ℕ, ◌+◌, ◌-◌, ◌^◌, ◌<◌, ◌==◌, bit_and, if◌then◌else◌, List, [], length, take, slice_index, Option, Some, None, Result, Ok, Err}
 use Rattle.rrs_lib.specs.Bytes.{ByteMap}
 use Rattle.rrs_lib.specs.AccessLists.{Access}
 use Rattle.rrs_linux.specs.Requests.{error}
@@ -10,7 +10,8 @@ use Rattle.rrs_files.specs.declared.descriptors.Descriptors.{Descriptors}
 use Rattle.rrs_files.specs.declared.folder.Status.{Status}
 use Rattle.rrs_files.specs.declared.paths.Named.{Named}
 use Rattle.rrs_files.specs.declared.paths.Named.TheVariants.{There, Missing, Stopped}
-use Rattle.rrs_files.specs.Descriptors.{IsOpen, IsClosed, is_closed_stream}
+use Rattle.rrs_files.specs.Descriptors.{HasTarget, IsFree}
+use Rattle.rrs_files.specs.declared.descriptors.Target.{Target}
 use Rattle.rrs_files.specs.Events.{Did, Looked}
 
 -- ---- the text
@@ -74,13 +75,11 @@ pub data IsForbidden (path : List ℕ) (beside : ℕ) (descriptors : Descriptors
   -- (ENOTDIR is 20, and EBADF 9)
   IsBeside :
       (BeginsHere path beside → ⊥)
-      → ((beside ≤ 2) × (is_closed_stream descriptors.are_closed beside ≡ false))
-      ⊎ ((place : ℕ) × IsOpen descriptors.files beside place)
+      → (target : Target) → HasTarget descriptors.targets beside target
       → answer ≡ error 20 → IsForbidden path beside descriptors answer
   IsNowhere :
       (BeginsHere path beside → ⊥)
-      → (is_closed_stream descriptors.are_closed beside ≡ true)
-      ⊎ ((2 < beside) × IsClosed descriptors.files beside)
+      → IsFree descriptors.targets beside
       → answer ≡ error 9 → IsForbidden path beside descriptors answer
   -- EACCES is 13
   IsUp : Climbs path → answer ≡ error 13 → IsForbidden path beside descriptors answer

@@ -1,16 +1,13 @@
-//! The descriptors of the files that a program has open.
+//! The descriptors that a program has open.
 
-ghost use Rattle.std.specs.Prelude.{◌≡◌, ◌<◌, ◌≤◌, ◌+◌, ◌-◌, ◌↔◌, IsTrue, Some, None, MatchOption, set, slice_index_or};
-ghost use Rattle.rrs_files.specs.Descriptors.{AreUsed, IsClosed, IsFirstFree, IsFull, IsOpen, IsUnused, IsUsed, is_closed_stream, kept_flags, may_write};
+ghost use Rattle.std.specs.Prelude.{◌≡◌, ◌<◌, ◌≤◌, ◌↔◌, IsTrue, Some, None, MatchOption, set, slice_index_or};
+ghost use Rattle.rrs_files.specs.Descriptors.{AreStreams, AreUsed, HasTarget, IsClosed, IsFirstFree, IsFree, IsFull, IsOpen, IsUnused, IsUsed, kept_flags, may_write, stream_at};
+
+/// How many descriptors there are: the standard streams, and 64 more.
+pub const MOST_OPEN: usize = 67;
 
 /// How many files may be open.
-pub const MOST_OPEN: usize = 64;
-
-/// The first descriptor of a file: those before it are the standard streams.
-pub const FIRST: u32 = 3;
-
-/// After the last one.
-pub const END: u32 = 67;
+const MOST_FILES: usize = 64;
 
 /// The flags of `openat` that are kept: the access mode, and `O_APPEND`.
 const KEPT: u32 = 0x403;
@@ -18,72 +15,103 @@ const KEPT: u32 = 0x403;
 /// Of these the access mode, which is 0 for a file that is read alone: `O_ACCMODE`.
 const ACCESS_MODE: u32 = 3;
 
-/// Which of the 64 descriptors from 3 on are open.
+/// What a descriptor has.
+#[derive(Clone, Copy, Debug, PartialEq)]
+pub enum Target {
+    /// The file of a number, below 64.
+    File(usize),
+    /// A standard stream: 0 is the input, 1 the output and 2 the errors.
+    Stream(u32),
+}
+
+/// Which of the 67 descriptors are open.
 #[derive(Clone, Copy, Debug, PartialEq)]
 pub struct Descriptors {
-    /// The number of the file of each that is open. Several may share one, and so its position.
-    pub files: [Option<usize>; MOST_OPEN],
+    /// What each has that is open. Several may share a file, and so its position, or a stream.
+    pub targets: [Option<Target>; MOST_OPEN],
     /// How each that is open was opened: its access mode and `O_APPEND`, of the flags of `openat`.
     pub flags: [u32; MOST_OPEN],
-    /// Whether the program closed each of the standard streams.
-    pub are_closed: [bool; 3],
 }
 
 impl Descriptors {
-    /// Of which none is open.
-    pub const NONE: Descriptors = Descriptors {
-        files: [None; MOST_OPEN],
-        flags: [0; MOST_OPEN],
-        are_closed: [false; 3],
-    };
-
-    /// The number of the file of a descriptor, from 0 on, if it is open.
-    pub fn file_of(&self, descriptor: u32) -> Option<usize>
-        ensures { MatchOption result (IsClosed self.now.files descriptor)
-            (IsOpen self.now.files descriptor) }
+    /// Of which the standard streams are open alone.
+    pub fn new() -> Descriptors
+        ensures { AreStreams result }
     {
-        if descriptor < FIRST || descriptor >= END {
+        let mut targets = [None; MOST_OPEN];
+        let mut flags = [0; MOST_OPEN];
+        targets[0] = Some(Target::Stream(0));
+        targets[1] = Some(Target::Stream(1));
+        targets[2] = Some(Target::Stream(2));
+        flags[1] = 1;
+        flags[2] = 1;
+        Descriptors { targets, flags }
+    }
+
+    /// What a descriptor has, if it is open.
+    pub fn target_of(&self, descriptor: u32) -> Option<Target>
+        ensures { MatchOption result (IsFree self.now.targets descriptor)
+            (HasTarget self.now.targets descriptor) }
+    {
+        let place = descriptor as usize;
+        if place >= MOST_OPEN {
             return None;
         }
-        let place = (descriptor - FIRST) as usize;
-        match self.files[place] {
-            Some(at) if at < MOST_OPEN => Some(at),
+        match self.targets[place] {
+            Some(Target::File(at)) if at >= MOST_FILES => None,
+            target => target,
+        }
+    }
+
+    /// The number of the file of a descriptor, below 64, if it has one.
+    pub fn file_of(&self, descriptor: u32) -> Option<usize>
+        ensures { MatchOption result (IsClosed self.now.targets descriptor)
+            (IsOpen self.now.targets descriptor) }
+    {
+        match self.target_of(descriptor) {
+            Some(Target::File(at)) => Some(at),
+            Some(Target::Stream(_)) => None,
+            None => None,
+        }
+    }
+
+    /// The standard stream of a descriptor, if it has one.
+    pub fn stream_of(&self, descriptor: u32) -> Option<u32>
+        ensures { result ≡ stream_at self.now.targets descriptor }
+    {
+        let place = descriptor as usize;
+        if place >= MOST_OPEN {
+            return None;
+        }
+        match self.targets[place] {
+            Some(Target::Stream(stream)) => Some(stream),
             _ => None,
         }
     }
 
     /// How a descriptor was opened.
     pub fn flags_of(&self, descriptor: u32) -> u32
-        requires first { 3 ≤ descriptor }
-        requires last { descriptor < 67 }
-        ensures { result ≡ slice_index_or self.now.flags (descriptor - 3) 0 }
+        requires { descriptor < 67 }
+        ensures { result ≡ slice_index_or self.now.flags descriptor 0 }
     {
-        self.flags[(descriptor - FIRST) as usize]
+        self.flags[descriptor as usize]
     }
 
     /// Whether a descriptor was opened to be written.
     pub fn may_write(&self, descriptor: u32) -> bool
-        requires first { 3 ≤ descriptor }
-        requires last { descriptor < 67 }
+        requires { descriptor < 67 }
         ensures { result ≡ may_write self.now.flags descriptor }
     {
         self.flags_of(descriptor) & ACCESS_MODE != 0
     }
 
-    /// Whether a descriptor is that of a standard stream that the program closed.
-    pub fn is_closed_stream(&self, descriptor: u32) -> bool
-        ensures { result ≡ is_closed_stream self.now.are_closed descriptor }
+    /// The first descriptor from a least one on that is not open, if there is one.
+    pub fn free_place(&self, least: usize) -> Option<usize>
+        ensures { MatchOption result (IsFull self.now.targets least)
+            (IsFirstFree self.now.targets least) }
     {
-        descriptor <= 2 && self.are_closed[descriptor as usize]
-    }
-
-    /// The first place whose descriptor is not open, if there is one.
-    pub fn free_place(&self) -> Option<usize>
-        ensures { MatchOption result (IsFull self.now.files)
-            (IsFirstFree self.now.files) }
-    {
-        for place in 0..MOST_OPEN {
-            match self.files[place] {
+        for place in least..MOST_OPEN {
+            match self.targets[place] {
                 None => return Some(place),
                 Some(_) => {}
             }
@@ -91,58 +119,53 @@ impl Descriptors {
         None
     }
 
-    /// A number that no descriptor has, if there is one.
+    /// A number of a file that no descriptor has, if there is one.
     pub fn free_file(&self) -> Option<usize>
-        ensures { MatchOption result (AreUsed self.now.files)
-            (IsUnused self.now.files) }
+        ensures { MatchOption result (AreUsed self.now.targets)
+            (IsUnused self.now.targets) }
     {
-        for at in 0..MOST_OPEN {
-            if !self.has(at) {
+        for at in 0..MOST_FILES {
+            if !self.has(Target::File(at)) {
                 return Some(at);
             }
         }
         None
     }
 
-    /// Whether some descriptor has the file of a number.
-    pub fn has(&self, at: usize) -> bool
-        ensures { IsTrue result ↔ IsUsed self.now.files at }
+    /// Whether some descriptor has this.
+    pub fn has(&self, target: Target) -> bool
+        ensures { IsTrue result ↔ IsUsed self.now.targets target }
     {
         for place in 0..MOST_OPEN {
-            if self.files[place] == Some(at) {
+            if self.targets[place] == Some(target) {
                 return true;
             }
         }
         false
     }
 
-    /// Takes the descriptor of a place for the file of a number, with flags of `openat`.
-    pub fn take(&mut self, place: usize, at: usize, flags: u32)
-        requires { place ≤ 63 }
-        ensures taken { self.new.files ≡ set self.old.files place (Some at) }
+    /// Gives a descriptor this, with flags of `openat`.
+    pub fn take(&mut self, place: usize, target: Target, flags: u32)
+        requires { place < 67 }
+        ensures taken { self.new.targets ≡ set self.old.targets place (Some target) }
         ensures noted { self.new.flags ≡ set self.old.flags place (kept_flags flags) }
-        ensures streams_kept { self.new.are_closed ≡ self.old.are_closed }
     {
-        self.files[place] = Some(at);
+        self.targets[place] = Some(target);
         self.flags[place] = flags & KEPT;
     }
 
     /// Frees a descriptor.
     pub fn free(&mut self, descriptor: u32)
-        requires first { 3 ≤ descriptor }
-        requires last { descriptor < 67 }
-        ensures freed { self.new.files ≡ set self.old.files (descriptor - 3) None }
+        requires { descriptor < 67 }
+        ensures freed { self.new.targets ≡ set self.old.targets descriptor None }
         ensures flags_kept { self.new.flags ≡ self.old.flags }
-        ensures streams_kept { self.new.are_closed ≡ self.old.are_closed }
     {
-        self.files[(descriptor - FIRST) as usize] = None;
+        self.targets[descriptor as usize] = None;
     }
 }
 
-/// The descriptor of a place.
-pub fn descriptor_at(place: usize) -> u32
-    requires { place ≤ 63 }
-    ensures { result ≡ place + 3 }
-{
-    place as u32 + FIRST
+impl Default for Descriptors {
+    fn default() -> Self {
+        Self::new()
+    }
 }

@@ -1,10 +1,10 @@
 //! The files of a program, and what the calls do to them whose path is read.
 
-ghost use Rattle.std.specs.Prelude.{◌≡◌, ◌&&◌};
-ghost use Rattle.rrs_files.specs.Acts.{Changes, ChangesName, Closes, ClosesStream, Controls, ControlsDevice, Copies, CopiesTo, Opens, Owns, Renames, Tests, control_answer, denying, keeping, keeps, moving, opening, owning, replacing, stream_flags, timing, withholding};
+ghost use Rattle.std.specs.Prelude.{◌≡◌, ◌<◌, ◌&&◌};
+ghost use Rattle.rrs_files.specs.Acts.{Changes, ChangesName, Closes, Controls, ControlsDevice, Copies, CopiesTo, Leaves, Opens, Owns, Renames, Tests, control_answer, copies, denying, keeping, keeps, moving, opening, owning, replacing, timing, withholding};
 ghost use Rattle.rrs_files.specs.Requests.{changes, not_served};
 
-use crate::descriptors::{Descriptors, END, FIRST, descriptor_at};
+use crate::descriptors::{Descriptors, MOST_OPEN, Target};
 use crate::errors::{
     A_DIRECTORY, ACCESS_DENIED, BAD_ARGUMENT, BAD_DESCRIPTOR, IS_LINK, IS_THERE, MANY_OPEN,
     NO_DIRECTORY, NO_FILE, NO_TERMINAL, NOT_PERMITTED, READ_ONLY,
@@ -26,6 +26,11 @@ const CLOSES_ON_EXEC: u32 = 0x8_0000;
 const GET_FLAGS: u32 = 1;
 
 const SET_FLAGS: u32 = 2;
+
+/// Its commands that copy a descriptor: `F_DUPFD`, `F_DUPFD_CLOEXEC`.
+const COPY: u32 = 0;
+
+const COPY_AND_CLOSE: u32 = 1030;
 
 /// Its commands for those of an open file: `F_GETFL`, `F_SETFL`.
 const GET_STATUS: u32 = 3;
@@ -65,7 +70,7 @@ impl<F: Folder> Files<F> {
         if is_kept_out(self.is_read_only, how) {
             return READ_ONLY;
         }
-        let place = match self.descriptors.free_place() {
+        let place = match self.descriptors.free_place(0) {
             Some(place) => place,
             None => return MANY_OPEN,
         };
@@ -80,8 +85,8 @@ impl<F: Folder> Files<F> {
         match self.folder.open(at, path, how) {
             Some(failed) => failed,
             None => {
-                self.descriptors.take(place, at, flags);
-                descriptor_at(place)
+                self.descriptors.take(place, Target::File(at), flags);
+                place as u32
             }
         }
     }
@@ -91,62 +96,65 @@ impl<F: Folder> Files<F> {
     pub fn close(&mut self, descriptor: u32) -> u32
         ensures { Closes F.did descriptor self.old self.new result }
     {
-        let Some(at) = self.descriptors.file_of(descriptor) else {
+        let Some(target) = self.descriptors.target_of(descriptor) else {
             return BAD_DESCRIPTOR;
         };
         self.descriptors.free(descriptor);
-        if self.descriptors.has(at) {
-            return 0;
+        match target {
+            Target::File(at) => self.leave(at),
+            Target::Stream(_) => {}
+        }
+        0
+    }
+
+    /// Closes the file of a number that a descriptor had, unless another one has it.
+    fn leave(&mut self, at: usize)
+        requires { at < 64 }
+        ensures { Leaves F.did at self.old self.new }
+    {
+        if self.descriptors.has(Target::File(at)) {
+            return;
         }
         self.folder.close(at);
-        0
     }
 
-    /// Closes a standard stream, and gives the answer of the call.
-    pub fn close_stream(&mut self, stream: u32) -> u32
-        ensures { ClosesStream F.did stream self.old self.new result }
+    /// Gives what a descriptor has another one, the first from a least one on that is free, and
+    /// gives the answer of the call.
+    pub fn copy(&mut self, descriptor: u32, least: u32) -> u32
+        ensures { Copies F.did descriptor least self.old self.new result }
     {
-        if stream > 2 || self.descriptors.are_closed[stream as usize] {
-            return BAD_DESCRIPTOR;
-        }
-        self.descriptors.are_closed[stream as usize] = true;
-        0
-    }
-
-    /// Gives the file of a descriptor another one, the first that is free, and gives the answer of
-    /// the call.
-    pub fn copy(&mut self, descriptor: u32) -> u32
-        ensures { Copies F.did descriptor self.old self.new result }
-    {
-        let Some(at) = self.descriptors.file_of(descriptor) else {
+        let Some(target) = self.descriptors.target_of(descriptor) else {
             return BAD_DESCRIPTOR;
         };
-        let place = match self.descriptors.free_place() {
+        if least as usize >= MOST_OPEN {
+            return BAD_ARGUMENT;
+        }
+        let place = match self.descriptors.free_place(least as usize) {
             Some(place) => place,
             None => return MANY_OPEN,
         };
         let kept = self.descriptors.flags_of(descriptor);
-        self.descriptors.take(place, at, kept);
-        descriptor_at(place)
+        self.descriptors.take(place, target, kept);
+        place as u32
     }
 
-    /// Gives the file of a descriptor this other one, which is closed first, and gives the answer
-    /// of the call.
+    /// Gives what a descriptor has this other one, which is closed first, and gives the answer of
+    /// the call.
     pub fn copy_to(&mut self, descriptor: u32, to: u32, flags: u32) -> u32
         ensures { CopiesTo F.did descriptor to flags self.old self.new result }
     {
         if descriptor == to || flags & !CLOSES_ON_EXEC != 0 {
             return BAD_ARGUMENT;
         }
-        if to < FIRST || to >= END {
+        if to as usize >= MOST_OPEN {
             return BAD_DESCRIPTOR;
         }
-        let Some(at) = self.descriptors.file_of(descriptor) else {
+        let Some(target) = self.descriptors.target_of(descriptor) else {
             return BAD_DESCRIPTOR;
         };
         let kept = self.descriptors.flags_of(descriptor);
         self.close(to);
-        self.descriptors.take((to - FIRST) as usize, at, kept);
+        self.descriptors.take(to as usize, target, kept);
         to
     }
 
@@ -218,16 +226,13 @@ impl<F: Folder> Files<F> {
     }
 
     /// Does a command of `fcntl` on a descriptor, and gives the answer of the call.
-    pub fn control(&self, descriptor: u32, command: u32, argument: u32) -> u32
-        ensures { Controls F.did descriptor command argument self.now self.now result }
+    pub fn control(&mut self, descriptor: u32, command: u32, argument: u32) -> u32
+        ensures { Controls F.did descriptor command argument self.old self.new result }
     {
-        if self.descriptors.is_closed_stream(descriptor) {
-            return BAD_DESCRIPTOR;
+        if copies(command) {
+            return self.copy(descriptor, argument);
         }
-        if descriptor <= 2 {
-            return answer_to(flags_of_stream(descriptor), command, argument);
-        }
-        match self.descriptors.file_of(descriptor) {
+        match self.descriptors.target_of(descriptor) {
             Some(_) => answer_to(self.descriptors.flags_of(descriptor), command, argument),
             None => BAD_DESCRIPTOR,
         }
@@ -320,11 +325,11 @@ fn keeps(wanted: u32, present: u32) -> bool
     wanted == u32::MAX || wanted == present
 }
 
-/// How a standard stream is open: to be read, or to be written.
-fn flags_of_stream(descriptor: u32) -> u32
-    ensures { result ≡ stream_flags descriptor }
+/// Whether a command of `fcntl` copies a descriptor.
+fn copies(command: u32) -> bool
+    ensures { result ≡ copies command }
 {
-    if descriptor == 0 { 0 } else { 1 }
+    command == COPY || command == COPY_AND_CLOSE
 }
 
 /// The answer to a command of `fcntl` on a descriptor that is open, with these flags.

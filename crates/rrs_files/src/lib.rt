@@ -21,7 +21,7 @@ mod running;
 mod serving;
 mod statuses;
 
-pub use descriptors::{Descriptors, MOST_OPEN};
+pub use descriptors::{Descriptors, MOST_OPEN, Target};
 pub use files::Files;
 pub use folder::{Change, Entry, Folder, How, LINK_BYTES, Moment, NAME_BYTES, NameChange, Status};
 pub use host_folder::HostFolder;

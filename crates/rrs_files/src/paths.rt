@@ -84,16 +84,10 @@ pub fn refusal_of(path: &[u8], beside: u32, descriptors: &Descriptors) -> Option
         return Some(NO_FILE);
     };
     if *first != SLASH && beside != WORKING_DIRECTORY {
-        let is_open = if beside <= 2 {
-            !descriptors.is_closed_stream(beside)
-        } else {
-            descriptors.file_of(beside).is_some()
-        };
-        return Some(if is_open {
-            NO_DIRECTORY
-        } else {
-            BAD_DESCRIPTOR
-        });
+        match descriptors.target_of(beside) {
+            Some(_) => return Some(NO_DIRECTORY),
+            None => return Some(BAD_DESCRIPTOR),
+        }
     }
     if climbs(path) {
         return Some(ACCESS_DENIED);

@@ -35,8 +35,7 @@ impl<F: Folder> Files<F> {
     /// Whether a write by a descriptor that is open is refused: files may only be read, or it is
     /// open to be read alone.
     fn refuses_write(&self, descriptor: u32) -> bool
-        requires first { 3 ≤ descriptor }
-        requires last { descriptor < 67 }
+        requires { descriptor < 67 }
         ensures { result ≡ refuses_write self.now descriptor }
     {
         self.is_read_only || !self.descriptors.may_write(descriptor)

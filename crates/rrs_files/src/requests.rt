@@ -1,10 +1,12 @@
 //! What a program asks for of its files.
 
-ghost use Rattle.std.specs.Prelude.{◌≡◌, ◌<◌, ℕ, Bool, Option, Some};
+ghost use Rattle.std.specs.Prelude.{◌≡◌, ℕ, Bool, Option, Some};
 ghost use Rattle.rrs_lib.specs.Machine.{state_of};
 ghost use Rattle.rrs_linux.specs.Requests.{are_flags, are_statx_flags};
-ghost use Rattle.rrs_files.specs.Requests.{AsksFile, AsksFileBy, IsOfFiles, how_of};
+ghost use Rattle.rrs_files.specs.Descriptors.{stream_of};
+ghost use Rattle.rrs_files.specs.Requests.{AsksFile, AsksFileBy, IsOfFiles, descriptor_in, how_of};
 
+use crate::descriptors::Descriptors;
 use crate::errors::BAD_ARGUMENT;
 use crate::folder::{Change, How, NameChange};
 use rrs_lib::HartState;
@@ -18,7 +20,7 @@ const DUP3: u32 = 24;
 /// `fcntl64`.
 const FCNTL64: u32 = 25;
 /// `ioctl`.
-pub const IOCTL: u32 = 29;
+const IOCTL: u32 = 29;
 /// `mkdirat`.
 const MKDIRAT: u32 = 34;
 /// `unlinkat`.
@@ -38,13 +40,13 @@ const CLOSE: u32 = 57;
 /// `getdents64`.
 const GETDENTS64: u32 = 61;
 /// `_llseek`.
-pub const LLSEEK: u32 = 62;
+const LLSEEK: u32 = 62;
 /// `read`.
-pub const READ: u32 = 63;
+const READ: u32 = 63;
 /// `write`.
-pub const WRITE: u32 = 64;
+const WRITE: u32 = 64;
 /// `writev`.
-pub const WRITEV: u32 = 66;
+const WRITEV: u32 = 66;
 /// `pread64`.
 const PREAD64: u32 = 67;
 /// `pwrite64`.
@@ -54,7 +56,7 @@ const READLINKAT: u32 = 78;
 /// `fstatat64`.
 const FSTATAT64: u32 = 79;
 /// `fstat64`.
-pub const FSTAT64: u32 = 80;
+const FSTAT64: u32 = 80;
 /// `fsync`.
 const FSYNC: u32 = 82;
 /// `fdatasync`.
@@ -83,11 +85,9 @@ pub enum FileRequest {
     Open(u32, u32, u32, u32),
     /// To close a descriptor.
     Close(u32),
-    /// To close a standard stream.
-    CloseStream(u32),
-    /// To give the file of a descriptor another one.
+    /// To give what a descriptor has another one.
     Copy(u32),
-    /// To give the file of a descriptor this other one, with flags.
+    /// To give what a descriptor has this other one, with flags.
     CopyTo(u32, u32, u32),
     /// To move the position of a descriptor, by an offset of 64 bits, from a place, and to put it
     /// at an address: descriptor, offset, place, address.
@@ -192,15 +192,14 @@ fn request_by(
         UTIMENSAT if third != 0 && fourth == 0 => Some(FileRequest::SetTimes(first, second, third)),
         UTIMENSAT => Some(FileRequest::Refused(BAD_ARGUMENT)),
         FCNTL64 => Some(FileRequest::Control(first, second, third)),
-        CLOSE if first > 2 => Some(FileRequest::Close(first)),
-        CLOSE => Some(FileRequest::CloseStream(first)),
-        _ if first > 2 => request_on(call, first, second, third, fourth, fifth),
-        _ => None,
+        CLOSE => Some(FileRequest::Close(first)),
+        DUP => Some(FileRequest::Copy(first)),
+        DUP3 => Some(FileRequest::CopyTo(first, second, third)),
+        _ => request_on(call, first, second, third, fourth, fifth),
     }
 }
 
-/// What a call with this number and these arguments asks for, of which the first is a descriptor of
-/// a file.
+/// What a call with this number and these arguments asks for, of which the first is a descriptor.
 fn request_on(
     call: u32,
     first: u32,
@@ -209,13 +208,10 @@ fn request_on(
     fourth: u32,
     fifth: u32,
 ) -> Option<FileRequest>
-    requires other { IsOfFiles call → ⊥ }
-    requires file { 2 < first }
+    requires { IsOfFiles call → ⊥ }
     ensures { AsksFileBy call first second third fourth fifth result }
 {
     match call {
-        DUP => Some(FileRequest::Copy(first)),
-        DUP3 if second > 2 => Some(FileRequest::CopyTo(first, second, third)),
         GETDENTS64 => Some(FileRequest::List(first, second, third)),
         READ => Some(FileRequest::Read(first, second, third)),
         WRITE => Some(FileRequest::Write(first, second, third)),
@@ -243,6 +239,36 @@ fn request_on(
         FCHMOD => Some(FileRequest::ChangeFile(first, Change::Mode(second & 0o7777))),
         FCHOWN => Some(FileRequest::Own(first, second, third)),
         _ => None,
+    }
+}
+
+/// The descriptor that is read, written or asked, if one is.
+fn descriptor_in(request: &FileRequest) -> Option<u32>
+    ensures { result ≡ descriptor_in request.now }
+{
+    match *request {
+        FileRequest::Seek(descriptor, _, _, _)
+        | FileRequest::Read(descriptor, _, _)
+        | FileRequest::ReadAt(descriptor, _, _, _)
+        | FileRequest::Write(descriptor, _, _)
+        | FileRequest::WriteAt(descriptor, _, _, _)
+        | FileRequest::WritePieces(descriptor, _, _)
+        | FileRequest::List(descriptor, _, _)
+        | FileRequest::Status(descriptor, _)
+        | FileRequest::ChangeFile(descriptor, _)
+        | FileRequest::Own(descriptor, _, _)
+        | FileRequest::ControlDevice(descriptor) => Some(descriptor),
+        _ => None,
+    }
+}
+
+/// The standard stream that is read, written or asked, if one is.
+pub fn stream_asked(request: &FileRequest, descriptors: &Descriptors) -> Option<u32>
+    ensures { result ≡ stream_of descriptors.now.targets (descriptor_in request.now) }
+{
+    match descriptor_in(request) {
+        Some(descriptor) => descriptors.stream_of(descriptor),
+        None => None,
     }
 }
 

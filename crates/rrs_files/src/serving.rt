@@ -7,10 +7,8 @@ ghost use Rattle.rrs_linux.specs.SystemCalls.{answered};
 ghost use Rattle.rrs_linux.specs.Transfers.{Stands};
 ghost use Rattle.rrs_fast.specs.Serving.{MakesSome};
 ghost use Rattle.rrs_files.specs.Acts.{ChangesName, Opens, Renames, Tests};
-ghost use Rattle.rrs_files.specs.Descriptors.{is_closed_stream};
-ghost use Rattle.rrs_files.specs.Calls.{ByPath, ByPaths, DoesFile, FindsLink, IsMoment, ListsFile, MovesBack, ReadsFile, ReadsLink, SeeksFile, ServesFiles, SetsTimes, TakesPath, TakesTimes, TellsBeside, TellsFile, TellsFolder, TellsNamed, folder_answer, asks_closed, is_of_descriptor, is_of_stream, link_answer, linking, listed_of, naming, times_of};
+ghost use Rattle.rrs_files.specs.Calls.{ByPath, ByPaths, DoesFile, FindsLink, IsMoment, ListsFile, MovesBack, ReadsFile, ReadsLink, SeeksFile, ServesFiles, SetsTimes, TakesPath, TakesTimes, TellsBeside, TellsFile, TellsFolder, TellsNamed, folder_answer, is_of_descriptor, link_answer, linking, listed_of, naming, times_of};
 
-use crate::descriptors::Descriptors;
 use crate::entries::read_directory;
 use crate::errors::{BAD_ADDRESS, BAD_ARGUMENT, BAD_DESCRIPTOR, IS_LINK, NO_FILE, NO_ROOM};
 use crate::files::Files;
@@ -18,7 +16,7 @@ use crate::folder::{Folder, LINK_BYTES, Moment, NameChange, Status};
 use crate::paths::{
     IS_SYMBOLIC, Named, PATH_BYTES, WORKING_DIRECTORY, kind_of, read_path, refusal_of, walk,
 };
-use crate::requests::{FSTAT64, FileRequest, IOCTL, LLSEEK, READ, WRITE, WRITEV, file_request_of};
+use crate::requests::{FileRequest, file_request_of, stream_asked};
 use crate::statuses::{Form, put_stream, put_told};
 use arrayvec::ArrayVec;
 use rrs_fast::Environment;
@@ -31,6 +29,9 @@ pub const CHUNK: usize = 65_536;
 
 /// From where a position is moved: from where it is, `SEEK_CUR`.
 const FROM_POSITION: u32 = 1;
+
+/// The register of the first argument, `a0`, which takes the answer too.
+const FIRST_ARGUMENT: usize = 10;
 
 /// How many bytes two times have.
 const TIMES: u32 = 32;
@@ -59,8 +60,7 @@ impl<F: Folder> Files<F> {
                 self.open_at(memory, beside, path, flags, mode)
             }
             FileRequest::Close(descriptor) => self.close(descriptor),
-            FileRequest::CloseStream(stream) => self.close_stream(stream),
-            FileRequest::Copy(descriptor) => self.copy(descriptor),
+            FileRequest::Copy(descriptor) => self.copy(descriptor, 0),
             FileRequest::CopyTo(descriptor, to, flags) => self.copy_to(descriptor, to, flags),
             FileRequest::Seek(descriptor, offset, from, address) => {
                 self.seek_to(memory, descriptor, offset, from, address)
@@ -422,11 +422,9 @@ impl<F: Folder> Files<F> {
         ensures writable_kept { M.writable memory.new ≡ M.writable memory.old }
         ensures layout_kept { M.layout memory.new ≡ M.layout memory.old }
     {
-        if self.descriptors.is_closed_stream(beside) {
-            return BAD_DESCRIPTOR;
-        }
-        if beside <= 2 {
-            return put_stream(memory, address, form);
+        match self.descriptors.stream_of(beside) {
+            Some(_) => return put_stream(memory, address, form),
+            None => {}
         }
         if beside != WORKING_DIRECTORY {
             return self.put_status(memory, beside, address, form);
@@ -659,43 +657,20 @@ impl<'a, P: Environment, F: Folder> Environment for WithFiles<'a, P, F> {
     ghost serves = { ServesFiles P.serves F.did };
 
     fn serve<M: Memory>(&mut self, executor: &mut InstructionExecutor<M>) -> Option<u32> {
-        match file_request_of(executor.hart_state) {
-            None => {
-                if asks_closed(executor.hart_state, &self.files.descriptors) {
-                    return go_on(executor.hart_state, BAD_DESCRIPTOR);
-                }
+        let Some(request) = file_request_of(executor.hart_state) else {
+            return self.process.serve(executor);
+        };
+        match stream_asked(&request, &self.files.descriptors) {
+            Some(stream) => {
+                executor.hart_state.write_register(FIRST_ARGUMENT, stream);
                 self.process.serve(executor)
             }
-            Some(request) => {
+            None => {
                 let answer = self.files.perform(executor.mem, request);
                 go_on(executor.hart_state, answer)
             }
         }
     }
-}
-
-/// Whether the call of a hart at an `ecall` is one on a standard stream that the program closed.
-fn asks_closed(hart: &HartState, descriptors: &Descriptors) -> bool
-    ensures { (bytes : ℕ → Option ℕ) (writable : ℕ → Bool)
-        → result ≡ asks_closed (state_of hart.now bytes writable) descriptors.now.are_closed }
-{
-    let call = hart.read_register(17);
-    let first = hart.read_register(10);
-    is_closed_by(call, first, descriptors)
-}
-
-/// Whether a call with this number and this first argument is one on a stream that was closed.
-fn is_closed_by(call: u32, first: u32, descriptors: &Descriptors) -> bool
-    ensures { result ≡ (is_closed_stream descriptors.now.are_closed first && is_of_stream call) }
-{
-    descriptors.is_closed_stream(first) && is_of_stream(call)
-}
-
-/// Whether a call on a standard stream is answered `EBADF` where that is closed.
-fn is_of_stream(call: u32) -> bool
-    ensures { result ≡ is_of_stream call }
-{
-    matches!(call, READ | WRITE | WRITEV | FSTAT64 | LLSEEK | IOCTL)
 }
 
 /// Puts the answer of a call into a0. The program goes on.
@@ -705,6 +680,6 @@ fn go_on(hart: &mut HartState, answer: u32) -> Option<u32>
         → state_of hart.new bytes writable ≡ answered (state_of hart.old bytes writable) answer }
     ensures zero_kept { slice_index hart.new.registers 0 ≡ slice_index hart.old.registers 0 }
 {
-    hart.write_register(10, answer);
+    hart.write_register(FIRST_ARGUMENT, answer);
     None
 }

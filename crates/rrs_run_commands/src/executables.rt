@@ -155,7 +155,7 @@ fn files_below<'h, 'a, H: Files + AllocGlobal>(
     match HostFolder::new(rt, path, room) {
         Ok(folder) => Ok(ProgramFiles {
             folder,
-            descriptors: Descriptors::NONE,
+            descriptors: Descriptors::new(),
             is_read_only,
         }),
         Err(error) => Err(refused_by_host(path, &error)),

@@ -261,6 +261,41 @@ static void streams(void)
     printf("the output is open %d\n", fcntl(1, F_GETFD));
 }
 
+// The standard streams have descriptors as files have: a copy of one, a file in the place of one, and
+// the number of one that was closed. Only the output is open.
+static void copied_streams(void)
+{
+    char bytes[64] = "";
+    fflush(stdout);
+    int file = open("output", O_RDWR | O_CREAT | O_TRUNC, 0600);
+    int kept = dup(1);
+    int moved = dup2(file, 1);
+    printf("to the file");
+    fflush(stdout);
+    int past = write(kept, "past it\n", 8);
+    int back = dup2(kept, 1);
+    printf("file %d kept %d %d %d %d", file, kept, moved, past, back);
+    printf(" close %d %d", close(kept), close(kept));
+    lseek(file, 0, SEEK_SET);
+    printf(" %d", (int)read(file, bytes, sizeof bytes - 1));
+    printf(" %s", bytes);
+    // the lowest number is taken
+    printf(" close %d", close(0));
+    printf(" lowest %d", open("output", O_RDONLY));
+    printf(" read %d", (int)read(0, bytes, 2));
+    printf(" %.2s", bytes);
+    // from a number on
+    printf(" copy %d %d", kept = fcntl(1, F_DUPFD, 30), moved = fcntl(file, F_DUPFD, 30));
+    fflush(stdout);
+    printf(" write %d %d", (int)write(kept, "\n", 1), (int)write(moved, "!", 1));
+    printf(" close %d %d", close(kept), close(moved));
+    errno = 0;
+    printf(" %d", fcntl(file, F_DUPFD, 100000));
+    printf(" %d\n", errno);
+    close(file);
+    unlink("output");
+}
+
 int main(int argc, char **argv)
 {
     FILE *f = fopen("out.txt", "w");
@@ -439,5 +474,6 @@ int main(int argc, char **argv)
     close(fds[3]);
     printf("again %d %d\n", fds[3], open("keep", O_RDONLY));
     streams();
+    copied_streams();
     return 0;
 }

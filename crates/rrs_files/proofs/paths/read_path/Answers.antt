@@ -1,4 +1,4 @@
-use Rattle.std.proofs.Common.{◌≡◌, ◌+◌, ◌∙◌, sym, arith}
+use Rattle.std.proofs.Common.{◌≡◌, ◌∙◌, sym, arith}
 use Rattle.std.proofs.lemmas.List.{length-set}
 use Rattle.rrs_linux.proofs.Written.{chunk_more, reads_more}
 use Rattle.rrs_files.proofs.ReadPaths.{ended, unmapped, past, too_long, some_more}

@@ -1,5 +1,5 @@
 -- The run begins with the heap that was set.
-use Rattle.std.proofs.Common.{◌≡◌, refl, ap}
+use Rattle.std.proofs.Common.{refl, ap}
 use Rattle.rrs_files.proofs.running.run_image.Goals as goal
 
 pub returns : goal.returns

@@ -1,23 +1,16 @@
-use Rattle.std.proofs.Common.{refl, sym, ◌∙◌}
-use Rattle.rrs_files.specs.Acts.{IsClosedNow, IsStillOpen}
+use Rattle.std.proofs.Common.{refl}
+use Rattle.rrs_files.specs.Acts.{IsClosedNow, WasStream}
 use Rattle.rrs_files.proofs.files.Files.close.Goals as goal
 
-pub returns-then-has : goal.returns-then-has
-returns-then-has g c =
-    IsStillOpen c.in-Some.at c.free.new.self.files c.in-Some.ensures c.free.ensures.freed
-    (c.has.ensures.0 c.if-has.true)
-    (λ i. record c.args.self.now {
-      descriptors = record { files = c.free.new.self.files; flags = c.free.ensures.flags_kept i; are_closed = c.free.ensures.streams_kept i };
-    })
-    refl
+pub returns-in-File : goal.returns-in-File
+returns-in-File g c =
+    IsClosedNow c.in-File.at (record c.args.self.now { descriptors = c.free.new.self })
+    (rw c.in-File.is at c.in-Some.ensures)
+    (λ i. record c.args.self.now { descriptors = record { targets = c.free.ensures.freed i; flags = c.free.ensures.flags_kept i } })
+    c.leave.ensures refl
 
-pub returns : goal.returns
-returns g c =
-    IsClosedNow c.in-Some.at c.free.new.self.files c.close.new.self c.in-Some.ensures
-    c.free.ensures.freed (λ used. absurd (cc (sym c.if-has.false ∙ c.has.ensures.1 used)))
-    c.close.ensures
-    (λ i. record c.args.self.now {
-      folder = c.close.new.self;
-      descriptors = record { files = c.free.new.self.files; flags = c.free.ensures.flags_kept i; are_closed = c.free.ensures.streams_kept i };
-    })
+pub returns-in-Stream : goal.returns-in-Stream
+returns-in-Stream g c =
+    WasStream c.in-Stream.field-0 (rw c.in-Stream.is at c.in-Some.ensures)
+    (λ i. record c.args.self.now { descriptors = record { targets = c.free.ensures.freed i; flags = c.free.ensures.flags_kept i } })
     refl

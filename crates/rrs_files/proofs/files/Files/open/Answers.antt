@@ -32,6 +32,6 @@ returns-in-None-open g c =
     (rw how at c.in-None-open.ensures)
     (λ i. record c.args.self.now {
       folder = c.open.new.self;
-      descriptors = record { files = c.take.ensures.taken i; flags = c.take.ensures.noted i; are_closed = c.take.ensures.streams_kept i };
+      descriptors = record { targets = c.take.ensures.taken i; flags = c.take.ensures.noted i };
     })
-    c.descriptor_at.ensures
+    refl

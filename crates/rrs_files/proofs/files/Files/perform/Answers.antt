@@ -101,8 +101,3 @@ returns-in-CopyTo-clause-does g c =
 pub returns-in-ExtendedStatus-clause-does : goal.returns-in-ExtendedStatus-clause-does
 returns-in-ExtendedStatus-clause-does g c =
     rw c.in-ExtendedStatus.is c.put_named-in-ExtendedStatus.ensures.does
-
-pub returns-in-CloseStream-clause-does : goal.returns-in-CloseStream-clause-does
-returns-in-CloseStream-clause-does g c =
-    rw c.in-CloseStream.is
-    (record { accesses = []; these = (c.close_stream.ensures, refl, refl); made = refl })

@@ -1,14 +1,13 @@
-use Rattle.std.proofs.Common.{[], refl, sym, ◌∙◌, arith}
+use Rattle.std.proofs.Common.{[], refl, sym, ◌∙◌}
 use Rattle.rrs_files.specs.Calls.{IsOfFile, IsOfOpenStream, IsOfNoFolder, IsOfFolder}
 use Rattle.rrs_files.proofs.files.Files.put_beside.Goals as goal
 
-pub returns-then-beside-le2-clause-does : goal.returns-then-beside-le2-clause-does
-returns-then-beside-le2-clause-does g c =
+pub returns-in-Some-clause-does : goal.returns-in-Some-clause-does
+returns-in-Some-clause-does g c =
     let put = c.put_stream.ensures.put in
     record {
       accesses = put.accesses;
-      these = IsOfOpenStream (omega (arith, c.if-beside-le2.true))
-          (sym c.is_closed_stream.ensures ∙ c.if-is_closed_stream.false) refl put.these;
+      these = IsOfOpenStream c.in-Some.field-0 (sym c.stream_of.ensures ∙ c.in-Some.is) refl put.these;
       made = put.made;
     }
 
@@ -18,7 +17,7 @@ returns-then-beside-ne-WORKING_DIRECTORY-clause-does g c =
     let put = c.put_status.ensures.does in
     record {
       accesses = put.accesses;
-      these = IsOfFile (omega (arith, c.if-beside-le2.false)) c.if-beside-ne-WORKING_DIRECTORY.true put.these;
+      these = IsOfFile (sym c.stream_of.ensures ∙ c.in-None.is) c.if-beside-ne-WORKING_DIRECTORY.true put.these;
       made = put.made;
     }
 

@@ -1,6 +1,5 @@
-use Rattle.std.proofs.Common.{◌≡◌, List, ◌++◌, Ok, Err, take, refl, ◌∙◌}
-use Rattle.rrs_files.specs.Acts.{Renames}
-use Rattle.rrs_files.specs.Calls.{ByPaths, AreDone, FirstIsRefused, SecondIsRefused, TakesPath}
+use Rattle.std.proofs.Common.{Ok, Err, take, refl, ◌∙◌}
+use Rattle.rrs_files.specs.Calls.{AreDone, FirstIsRefused, SecondIsRefused, TakesPath}
 use Rattle.rrs_files.proofs.Buffers.{later}
 use Rattle.rrs_files.proofs.files.Files.rename_at.Goals as goal
 

@@ -1,4 +1,4 @@
-use Rattle.std.proofs.Common.{◌≡◌, [], refl, arith}
+use Rattle.std.proofs.Common.{[], refl, arith}
 use Rattle.rrs_files.specs.Calls.{IsFromNowhere, SeekFailed, IsMoved}
 use Rattle.rrs_files.proofs.files.Files.seek_to.Goals as goal
 

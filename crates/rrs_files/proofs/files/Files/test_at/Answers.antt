@@ -1,4 +1,4 @@
-use Rattle.std.proofs.Common.{refl, take}
+use Rattle.std.proofs.Common.{refl}
 use Rattle.rrs_files.specs.Calls.{IsDone, IsRefused}
 use Rattle.rrs_files.proofs.files.Files.test_at.Goals as goal
 
