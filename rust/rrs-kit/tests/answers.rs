@@ -202,7 +202,7 @@ fn fields_of(word: u32) -> Option<String> {
         LayerInstruction::Bits(BitInstruction { row, fields }) => {
             let (rd, rs1) = (fields.rd, fields.rs1);
             let (rs2, amount) = match row.operand() {
-                BitOperand::Register => (fields.rs2, 0),
+                BitOperand::Register | BitOperand::NotX0 => (fields.rs2, 0),
                 BitOperand::Amount => (0, fields.rs2),
                 BitOperand::Fixed(_) => (0, 0),
             };
