@@ -1,4 +1,4 @@
-"""The part of docs/SURFACE.md that is made: the public items, and the names of their clauses."""
+"""The part of SURFACE.md that is made: the public items, and the names of their clauses."""
 
 import re
 

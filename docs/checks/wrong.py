@@ -34,7 +34,7 @@ RIGHT = {
     "docs/ASSEMBLY.md": "# Assembly\n\n<!-- example -->\n```text\n`mret`, `fence.i`, `clz`\n```\n",
     # two headings of one name
     "docs/OTHER.md": "# Other\n\n## A heading\n\n## A [heading](PROVED.md)!\n",
-    "docs/SURFACE.md": f"# Surface\n\n{BELOW}\n",
+    "docs/development/SURFACE.md": f"# Surface\n\n{BELOW}\n",
     "README.md": """# A page
 
 The name `one_name`, [a heading](docs/OTHER.md#a-heading), [another](docs/OTHER.md#a-heading-1), and
@@ -91,7 +91,7 @@ WRONG = [
     ("docs/PROVED.md", "`value`, `ensures`", "proved", "`other_name`: no clause is named"),
     ("docs/PROVED.md", "[`other_name`](../crates/one/src/lib.rt)", "us", "carried by no call"),
     ("crates/one/src/lib.rt", "ensures value", "ensures worth", "ensures no clause `value`"),
-    ("docs/SURFACE.md", "one_name", "two_name", "call docs/check --write"),
+    ("docs/development/SURFACE.md", "one_name", "two_name", "call docs/check --write"),
     ("crates/one/src/lib.rt", "ensures {", "ensures kept {", "call docs/check --write"),
     ("crates/one/src/lib.rt", "ensures {", "requires {", "call docs/check --write"),
     ("crates/one/src/lib.rt", "other_name()", "other_name(word: u32)", "call docs/check --write"),

@@ -7,10 +7,10 @@
 # are older than their sources. They run with refuse.c preloaded, which the C compiler `cc` makes:
 # the first allocation is refused, then the second alone, and so on up to the last that the test
 # makes, which must be COUNT in all where that is given. With no arguments it does so for the tests
-# below, which are written to hold whichever allocation is refused; docs/SURFACE.md says what each
-# shows. The status is 0 where each run passed, 1 where one did not or a count is another, and 2
-# where there is no such test or no C compiler, or for wrong arguments. Where CI is true a missing
-# compiler is installed. --self-test tries this script: on tests that are wrong it must fail.
+# below, which are written to hold whichever allocation is refused; SURFACE.md says what each shows.
+# The status is 0 where each run passed, 1 where one did not or a count is another, and 2 where there
+# is no such test or no C compiler, or for wrong arguments. Where CI is true a missing compiler is
+# installed. --self-test tries this script: on tests that are wrong it must fail.
 set -o pipefail
 
 all='tests_kit texts::a_refused_text_may_be_asked_for_again 9
