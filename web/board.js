@@ -1,7 +1,7 @@
 "use strict";
 
 // A board that boots an operating system: a hart with machine mode and user mode, RAM, a finisher, a
-// CLINT and a UART (docs/MACHINE.md). The library makes each run. What stands here is how the board
+// CLINT and a UART (docs/BOARD.md). The library makes each run. What stands here is how the board
 // starts, which typed byte the UART is handed and when, and how long a hart that waits is let wait.
 // Nothing here knows the page.
 

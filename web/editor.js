@@ -33,7 +33,7 @@ const lineStartsOf = (text) => {
 /* How far a line is indented by Tab, and behind a label. */
 const INDENT = "    ";
 
-/* How many mistakes of a text are told at most (docs/C.md). */
+/* How many mistakes of a text are told at most (docs/LIMITS.md). */
 const MOST_MISTAKES = 20;
 
 /* How many lines end in a part of a text. */

@@ -1,6 +1,6 @@
 #!/usr/bin/env python3
 """Questions whose answers come from tables and rules that are written here anew: names, causes,
-comparisons of records, and executables in the ELF format. `make` stores them behind the others. docs/C.md has the forms.
+comparisons of records, and executables in the ELF format. `make` stores them behind the others. README.md has the forms.
 
 usage: checks.py questions | checks.py answers
 """

@@ -1,7 +1,7 @@
 #!/usr/bin/env python3
 """The questions that every face is asked, beside the stored ones of rrs-replay: `make` stores them.
 
-Each kind has a function below. The numbers are the same in each run. docs/C.md has the forms.
+Each kind has a function below. The numbers are the same in each run. README.md has the forms.
 """
 import random
 

@@ -1,5 +1,5 @@
-/* Answers questions about the kit, one a line, from standard input, over rrs.h alone. docs/C.md has
- * the forms; those of rrs-replay are answered as it does. */
+/* Answers questions about the kit, one a line, from standard input, over rrs.h alone. bindings/answers
+ * has the forms in its README.md; those of rrs-replay are answered as it does. */
 #include <stdio.h>
 #include <stdlib.h>
 #include <string.h>

@@ -1,7 +1,7 @@
 #!/usr/bin/env python3
 """Answers questions about the kit, one a line, from standard input, over rrs.py alone.
 
-docs/C.md has the forms; those of rrs-replay are answered as it does.
+bindings/answers/README.md has the forms; those of rrs-replay are answered as it does.
 """
 
 import sys

@@ -431,7 +431,7 @@ def compare(
     """The first Difference of a core's Retired from the model's, and None where none differs.
 
     ``by_words`` says that the core tells the address of the word that it accesses, and shifts masks
-    and data within the word. docs/C.md says which fields are compared.
+    and data within the word. docs/CORES.md says which fields are compared.
     """
     records = [_Retired(_long_of(r[0], "order"), *map(_word_of, r[1:])) for r in (model, core)]
     found = _compare(*map(ctypes.byref, records), bool(by_words))

@@ -13,7 +13,7 @@ usage: lines.py SEED COUNT            a source of so many statements, all of the
        lines.py --behind FOLDER       of each directive a source, one of which has a text behind it
                                       that it does not take
        lines.py --refused SOURCE ERRORS   the lines of a source that GNU as refuses, by the errors
-                                      that it printed, but for those that docs/ASSEMBLY.md names;
+                                      that it printed, but for those that docs/GNU-AS.md names;
                                       the status is 1 where there is one
 """
 import random
@@ -369,7 +369,7 @@ def means_the_same(line):
 
 
 def set_once(lines):
-    """The lines but for those that give a symbol a value again: docs/ASSEMBLY.md says what GNU as
+    """The lines but for those that give a symbol a value again: docs/GNU-AS.md says what GNU as
     does with such a symbol."""
     names = set()
     for line in lines:
@@ -408,7 +408,7 @@ def each(source, count):
 
 
 def is_named(statement):
-    """Whether docs/ASSEMBLY.md says that GNU as refuses a statement: an address that is negated or
+    """Whether docs/GNU-AS.md says that GNU as refuses a statement: an address that is negated or
     added to another or has another operator than a sign, an address or %lo where it takes a number
     alone, a load or a store by a constant, `//`, or a text behind a directive that is read over."""
     found = STATEMENT.match(statement)
@@ -432,7 +432,7 @@ def is_named(statement):
 
 
 def refused(source, errors):
-    """Prints the lines that GNU as refuses, but for those that docs/ASSEMBLY.md names. Returns
+    """Prints the lines that GNU as refuses, but for those that docs/GNU-AS.md names. Returns
     whether there is one."""
     with open(source, "rb") as file:
         lines = file.read().split(b"\n")

@@ -4,7 +4,7 @@ usage: opens.py RRS PROGRAM
 
 PROGRAM is opens.c as examples/exec/cc builds it. It opens 30 paths with each of 96 flags, and reads,
 writes and cuts what it opened. What it prints, and what the folder is then, must be what they are
-under qemu-riscv32, but where RUNNING.md says something else (`answer`). With --files-read-only the
+under qemu-riscv32, but where CALLS.md says something else (`answer`). With --files-read-only the
 folder must stay as it was, and what is opened to be read alone must be open as it is without. As
 root all runs as the user and the group 65534, so that the rights of files count.
 """
@@ -104,7 +104,7 @@ def run(room, words, paths):
 
 
 def answer(path, way, of_linux):
-    """What is printed, where Linux answers so: RUNNING.md says which answers are others."""
+    """What is printed, where Linux answers so: CALLS.md says which answers are others."""
     if path == "":
         return "-2"
     if way & CREATE and way & FOLDER:

@@ -1,7 +1,7 @@
 //! Answers the stored questions about the kit, and compares the answers with the stored ones.
 //!
 //! The questions are those of `rrs-replay` whose answers come from elsewhere, and those that the faces
-//! for C and Python are asked (`docs/C.md` has the forms), but for those of calls that are C's alone.
+//! for C and Python are asked (`bindings/answers/README.md` has the forms), but for those of calls that are C's alone.
 //! `rust/build` puts them beside this file.
 #![cfg(all(feature = "trace", feature = "elf", feature = "machine", feature = "gdb"))]
 
