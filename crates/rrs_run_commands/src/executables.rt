@@ -163,13 +163,13 @@ fn files_below<'h, 'a, H: Files + AllocGlobal>(
 }
 
 /// Whether a call of this number is one that only a program with files is served: `openat`, others
-/// that name a file, `fcntl64` and `close`.
+/// that name a file, `fcntl64`, `close`, `dup` and `dup3`.
 pub fn is_of_files(number: u32) -> bool
     ensures { IsTrue result ↔ IsOfFiles number }
 {
     matches!(
         number,
-        17 | 25 | 34 | 35 | 48 | 56 | 57 | 78 | 79 | 276 | 291 | 412
+        17 | 23 | 24 | 25 | 34 | 35 | 48 | 56 | 57 | 78 | 79 | 276 | 291 | 412
     )
 }
 
