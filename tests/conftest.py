@@ -1,0 +1,94 @@
+"""What pytest does for the tests of this folder.
+
+A tool that is missing is installed where the variable CI is true, by apt-get as root, and a test that
+is skipped there has failed. Elsewhere the test is skipped by the tool's name. What several tests read
+is built once, also where several processes run them (pytest -n).
+
+The program that is tried is the proved one, which `.ci/built` builds where it is older than its
+sources. RRS=PATH in the environment tries another, as built/rust/target/release/rrs.
+"""
+
+import fcntl
+import os
+import shutil
+from collections import defaultdict
+from pathlib import Path
+
+import pytest
+
+from support import IN_CI, ROOT, missing, need, run
+
+# of each file the seconds that it took, and the least that the disk had left meanwhile
+TAKEN = defaultdict(lambda: [0.0, float("inf")])
+
+
+def pytest_addoption(parser):
+    parser.addoption("--skipped", metavar="FILE", help="write which tests were skipped, and why")
+
+
+@pytest.hookimpl(tryfirst=True)
+def pytest_runtest_setup(item):
+    """Looks for the tools of a test, before anything is built for it."""
+    for marker in item.iter_markers("tools"):
+        need(*marker.args)
+
+
+@pytest.hookimpl(hookwrapper=True)
+def pytest_runtest_makereport(item):
+    """Has a test that is skipped fail where CI is true."""
+    report = (yield).get_result()
+    if IN_CI and report.skipped:
+        report.outcome = "failed"
+        report.longrepr = f"{item.nodeid} is skipped where CI is true: {report.longrepr[2]}"
+
+
+def pytest_runtest_logreport(report):
+    """Adds to what a file took."""
+    taken = TAKEN[report.nodeid.split("::")[0]]
+    taken[0] += report.duration
+    taken[1] = min(taken[1], shutil.disk_usage(ROOT).free)
+
+
+def pytest_terminal_summary(terminalreporter, config):
+    """Says what each file took, and writes what was skipped."""
+    for name, (seconds, free) in sorted(TAKEN.items()):
+        terminalreporter.write_line(f"== {name}: {seconds:.0f} s, {free / 2**30:.1f}G free")
+    if config.getoption("skipped"):
+        with open(config.getoption("skipped"), "a", encoding="utf-8") as file:
+            for report in terminalreporter.stats.get("skipped", []):
+                why = report.longrepr[2].removeprefix("Skipped: ")
+                file.write(f"{report.nodeid.split('[')[0]}: {why}\n")
+
+
+@pytest.fixture(scope="session")
+def rrs():
+    """The program."""
+    given = os.environ.get("RRS")
+    if given:
+        return Path(given).resolve()
+    done = run(ROOT / ".ci/built", "program", "rrs")
+    if done.status == 2:
+        missing(done.errors.strip())
+    assert done.status == 0, done.output + done.errors
+    return ROOT / "crates/rrs/out/rrs"
+
+
+@pytest.fixture(scope="session")
+def once(tmp_path_factory):
+    """Makes a folder of a name, which one process of the run fills: once(NAME, FILL)."""
+    base = tmp_path_factory.getbasetemp()
+    if "PYTEST_XDIST_WORKER" in os.environ:
+        base = base.parent
+
+    def make(name, fill):
+        room, done = base / f"once-{name}", base / f"once-{name}.done"
+        with open(base / f"once-{name}.lock", "w", encoding="utf-8") as lock:
+            fcntl.flock(lock, fcntl.LOCK_EX)
+            if not done.exists():
+                shutil.rmtree(room, ignore_errors=True)
+                room.mkdir()
+                fill(room)
+                done.touch()
+        return room
+
+    return make
