@@ -1,8 +1,8 @@
 """What pytest does for the tests of this folder.
 
-A tool that is missing is installed where the variable CI is true, by apt-get as root, and a test that
-is skipped there has failed. Elsewhere the test is skipped by the tool's name. What several tests read
-is built once, also where several processes run them (pytest -n).
+A tool that is missing is installed where the variable CI is true, by apt-get as root, and a test
+that is skipped there has failed. Elsewhere the test is skipped by the tool's name. What several
+tests read is built once, also where several processes run them (pytest -n).
 
 The program that is tried is the proved one, which `.ci/built` builds where it is older than its
 sources. RRS=PATH in the environment tries another, as built/rust/target/release/rrs.
@@ -24,6 +24,15 @@ TAKEN = defaultdict(lambda: [0.0, float("inf")])
 
 def pytest_addoption(parser):
     parser.addoption("--skipped", metavar="FILE", help="write which tests were skipped, and why")
+    parser.addoption("--hours", action="store_true", help="run what takes an hour too")
+
+
+def pytest_collection_modifyitems(config, items):
+    """Leaves out what takes an hour, unless it is asked for."""
+    if not config.getoption("hours"):
+        left_out = [item for item in items if item.get_closest_marker("hours")]
+        items[:] = [item for item in items if item not in left_out]
+        config.hook.pytest_deselected(items=left_out)
 
 
 @pytest.hookimpl(tryfirst=True)

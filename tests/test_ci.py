@@ -40,8 +40,8 @@ for word; do
 done
 exit "$(sed -n "s/^$last //p" "$ROOM/ends" | grep . || echo 0)"
 """
-# ends with the status that it is given for a wrong subject, of which only 1 is right, and with RIGHT
-# for the right subject, of which only 0 is
+# ends with the status that it is given for a wrong subject, of which only 1 is right, and with
+# RIGHT for the right subject, of which only 0 is
 ENDS = '#!/bin/sh\n[ "$2" != nothing ] || exit "$RIGHT"\nexit "$2"\n'
 CRATES = ("low", "high", "rrs_c")
 SOURCES = ("crates/high/src/lib.rt", "crates/high/specs/Lib.antt", "crates/low/src/lib.rt",

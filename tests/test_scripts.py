@@ -1,6 +1,6 @@
-"""The checks that are scripts still. Each runs alone, once over what is built, and once over what is
-known to be wrong, with --self-test. A script ends with status 0 where all is as it should be, and
-with 2 where a tool is missing."""
+"""The checks that are scripts still. Each runs alone, once over what is built, and once over what
+is known to be wrong, with --self-test. A script ends with status 0 where all is as it should be,
+and with 2 where a tool is missing."""
 
 import re
 import subprocess
@@ -23,7 +23,6 @@ SCRIPTS = (
     "bindings/sv/check", "bindings/sv/check --self-test",
     "examples/rrs/check", "examples/rrs/check --self-test",
     "examples/exec/check", "examples/exec/check --self-test",
-    "examples/elf/check", "examples/elf/check --self-test",
     "examples/reports/check", "examples/reports/check --self-test",
     "examples/assembly/check", "examples/assembly/check --self-test",
     "examples/board/check", "examples/board/check --self-test",

@@ -1,40 +1,32 @@
-#!/usr/bin/env python3
 """Compares what `rrs elf` lists of executables with what GNU readelf lists of them.
 
-usage: check [--all | --self-test]
-
-The five programs of `sources` are built by gcc and clang, at -O0 to -O3, each in five ways: plain,
-with debug information, without symbols, without page alignment, and with the symbols of functions
-alone. That is 200 files. Of each the entry, the segments and the symbols are compared.
+The five programs of examples/elf/sources are built by gcc and clang, at -O0 to -O3, each in five
+ways: plain, with debug information, without symbols, without page alignment, and with the symbols
+of functions alone. That is 200 files. Of each the entry, the segments and the symbols are compared.
 
 Then three of them are damaged: each byte of the headers becomes each of 0, 1, 0x7f, 0x80 and 0xff,
 and the file is cut at each length below 4 KiB. Each is to be listed as readelf lists it, or refused
 with a line, and accepted exactly where `is_executable` below, which is written from the ELF
-specification, says so. With --all each of the 200 files is damaged so; that takes an hour.
+specification, says so. With `pytest --hours` each of the 200 files is damaged so, which takes an
+hour.
 
 Last a function gets other names: with each control character, as readelf shows it, and with other
 bytes and of other lengths, as the table NAMES has it.
-
-The status is 0 where all agree, 1 where something differs, and 2 where a tool is missing.
---self-test changes what is compared in ways that must be seen.
 """
 
 import concurrent.futures
-import contextlib
-import io
 import os
 import re
 import struct
 import subprocess
-import sys
-import tempfile
-from pathlib import Path
 
-HERE = Path(__file__).resolve().parent
-ROOT = HERE.parent.parent
-RRS = ROOT / "crates/rrs/out/rrs"
+import pytest
+
+from support import EXAMPLES, run
+
+SOURCES = EXAMPLES / "elf/sources"
 READELF = "riscv64-unknown-elf-readelf"
-TOOLS = (
+pytestmark = pytest.mark.tools(
     "riscv64-unknown-elf-gcc=gcc-riscv64-unknown-elf",
     f"{READELF}=binutils-riscv64-unknown-elf",
     "clang=clang",
@@ -51,13 +43,20 @@ WAYS = {
     "packed": ["-Wl,-n"],
     "cut": ["-g", "-Wl,--strip-debug", "-ffunction-sections", "-Wl,--gc-sections"],
 }
-DAMAGED = ("arrays-gcc-O2-plain", "tables-clang-O0-packed", "zeros-gcc-O3-debug")
+FILES = {
+    f"{program}-{name}{level}-{way}": [*compiler, level, *words, f"{program}.c"]
+    for program in PROGRAMS for name, compiler in (("gcc", GCC), ("clang", CLANG))
+    for level in LEVELS for way, words in WAYS.items()
+}
+# those that are damaged, and how many damaged forms each has; and how many all 200 files have
+DAMAGED = {"arrays-gcc-O2-plain": 2398, "tables-clang-O0-packed": 4723, "zeros-gcc-O3-debug": 3341}
+DAMAGES_OF_ALL = 581327
 BYTES = (0, 1, 0x7F, 0x80, 0xFF)
-# how many damaged forms these three have, and all 200 files
-DAMAGES, DAMAGES_OF_ALL = 10462, 581327
+# the file that is changed in ways that must be seen
+PLAIN = "arrays-gcc-O2-plain"
 
-# Names and what is shown of them: DEL, which readelf 2.40 writes otherwise, characters of UTF-8, those
-# among them that are control characters, bytes that are not UTF-8, and 1,024 bytes at most.
+# Names and what is shown of them: DEL, which readelf 2.40 writes otherwise, characters of UTF-8,
+# those among them that are control characters, bytes that are not UTF-8, and 1,024 bytes at most.
 NAMES = {
     b"a\x7fb": b"a^?b",
     "größe".encode(): "größe".encode(),
@@ -83,25 +82,19 @@ def type_of(word):
 
 
 def build(into):
-    """Builds the 200 files, and gives their paths. None depends on where the repository is."""
-    room, jobs = HERE / "sources", []
-    for program in PROGRAMS:
-        for name, compiler in (("gcc", GCC), ("clang", CLANG)):
-            for level in LEVELS:
-                for way, words in WAYS.items():
-                    path = into / f"{program}-{name}{level}-{way}"
-                    sources = [f"{program}.c", "start.S", f"-fdebug-prefix-map={room}=."]
-                    jobs.append((path, compiler + [level, "-ffreestanding", "-fno-pic", "-static",
-                                                   "-nostdlib", *words, *sources, "-o", str(path)]))
+    """Builds the 200 files. None depends on where the repository is."""
+    def make(name):
+        words = [*FILES[name], "start.S", "-ffreestanding", "-fno-pic", "-static", "-nostdlib",
+                 f"-fdebug-prefix-map={SOURCES}=.", "-o", into / name]
+        subprocess.run(words, cwd=SOURCES, check=True)
     with concurrent.futures.ThreadPoolExecutor(os.cpu_count()) as pool:
-        list(pool.map(lambda job: subprocess.run(job[1], cwd=room, check=True), jobs))
-    return [path for path, _ in jobs]
+        list(pool.map(make, FILES))
 
 
-def run(*words):
-    """The status of a command, what it prints, and what it says on standard error."""
-    done = subprocess.run(words, capture_output=True, check=False)
-    return done.returncode, done.stdout.decode("latin-1"), done.stderr.decode("latin-1")
+@pytest.fixture(scope="session")
+def files(once):
+    """The folder of the 200 files."""
+    return once("elf", build)
 
 
 def number(word):
@@ -111,7 +104,8 @@ def number(word):
 
 # the lines of a segment and of a symbol, in the form of either program
 SEGMENT = re.compile(r"\s+(\S+)\s+(0x\S+) (0x\S+) (0x\S+) (0x\S+) (0x\S+) (...) (\S+)$", re.M)
-SYMBOL = re.compile(r"\s+(\d+): ([0-9a-f]{8})\s+(\S+)\s+(\S+)\s+(\S+)\s+(\S+)\s+(\S+)(?: (.*))?$", re.M)
+SYMBOL = re.compile(
+    r"\s+(\d+): ([0-9a-f]{8})\s+(\S+)\s+(\S+)\s+(\S+)\s+(\S+)\s+(\S+)(?: (.*))?$", re.M)
 
 
 def segment(line):
@@ -157,7 +151,8 @@ def is_executable(file):
         return False
     loads, has_interpreter = [], False
     for n in range(phnum):
-        kind, offset, address, _, in_file, size, _, _ = struct.unpack_from("<8I", file, phoff + 32 * n)
+        fields = struct.unpack_from("<8I", file, phoff + 32 * n)
+        kind, offset, address, _, in_file, size, _, _ = fields
         has_interpreter |= kind == 3
         if kind == 1:
             if in_file and offset + in_file > len(file):
@@ -193,21 +188,23 @@ def has_sound_symbols(file, shoff, shsize, shnum):
     return True
 
 
-def differs(path, file=None, change=lambda text: text, rrs=RRS):
-    """What is wrong with the listing of a file, or None. A damaged file is written first."""
-    if file is not None:
-        path.write_bytes(file)
-    status, text, said = run(str(rrs), "elf", str(path))
+def unchanged(text):
+    """What rrs says, as it is."""
+    return text
+
+
+def differs(rrs, path, change=unchanged):
+    """What is wrong with the listing of a file, or an empty text."""
+    status, text, said = run(rrs, "elf", path)
     text, said = change(text), change(said)
     accepted = is_executable(path.read_bytes())
     if status not in (0, 1) or accepted != (status == 0):
         return f"status {status}, but is_executable says {accepted}: {said}"
     if status == 1:
         named = re.fullmatch(r"rrs elf: .+\n", said) and not text
-        return None if named else f"a refusal that is no line: {said!r}"
-    _, wanted, _ = run(READELF, "-lsW", str(path))
-    one, other = listed(text), listed(wanted)
-    return None if one == other else first_difference(one, other)
+        return "" if named else f"a refusal that is no line: {said!r}"
+    one, other = listed(text), listed(run(READELF, "-lsW", path).output)
+    return "" if one == other else first_difference(one, other)
 
 
 def first_difference(one, other):
@@ -219,7 +216,7 @@ def first_difference(one, other):
                     return f"rrs elf has {pair[0]}, readelf {pair[1]}"
         elif mine != theirs:
             return f"rrs elf has {mine}, readelf {theirs}"
-    return None
+    return "two listings that differ"
 
 
 def damages(file):
@@ -234,16 +231,16 @@ def damages(file):
         yield f"cut at {length}", file[:length]
 
 
-def check_damaged(room, path):
-    """Checks each damaged form of a file, and gives how many there were and what differs."""
-    file, wrong, count = path.read_bytes(), [], 0
+def damaged_differ(rrs, room, path, forms):
+    """What is wrong with damaged forms of a file."""
     own = room / f"damaged-{path.name}"
-    for what, changed in damages(file):
-        count += 1
-        said = differs(own, changed)
+    wrong = []
+    for what, changed in forms:
+        own.write_bytes(changed)
+        said = differs(rrs, own)
         if said:
             wrong.append(f"{path.name}, {what}: {said}")
-    return count, wrong
+    return wrong
 
 
 def renamed(file, name):
@@ -262,19 +259,47 @@ def renamed(file, name):
     return bytes(changed) + more
 
 
-def check_names(room, path, change=lambda text: text):
-    """What is wrong with how names are listed, and how many there were."""
-    file, own, wrong = path.read_bytes(), room / "renamed", []
-    for byte in range(1, 32):
-        said = differs(own, renamed(file, b"a%cb" % byte), change)
-        wrong += [f"a name with the byte {byte}: {said}"] if said else []
-    for name, shown in NAMES.items():
-        own.write_bytes(renamed(file, name))
-        status, text, _ = run(str(RRS), "elf", str(own))
-        names = [one[-1] for one in listed(change(text))[2]]
-        if status or names.count(shown.decode("latin-1")) != 1:
-            wrong.append(f"a name that is to be shown as {shown}: {names}")
-    return 31 + len(NAMES), wrong
+def name_differs(rrs, room, path, name, change=unchanged):
+    """What is wrong with how a name is listed: as readelf lists it, or as NAMES has it."""
+    own = room / "renamed"
+    own.write_bytes(renamed(path.read_bytes(), name))
+    if name not in NAMES:
+        return differs(rrs, own, change)
+    status, text, _ = run(rrs, "elf", own)
+    names = [one[-1] for one in listed(change(text))[2]]
+    is_right = status == 0 and names.count(NAMES[name].decode("latin-1")) == 1
+    return "" if is_right else f"a name that is to be shown as {NAMES[name]}: {names}"
+
+
+ALL_NAMES = [b"a%cb" % byte for byte in range(1, 32)] + list(NAMES)
+
+
+@pytest.mark.parametrize("name", FILES)
+def test_listing(rrs, files, name):
+    assert not differs(rrs, files / name)
+
+
+@pytest.mark.parametrize("name", DAMAGED)
+def test_damaged(rrs, files, tmp_path, name):
+    forms = list(damages((files / name).read_bytes()))
+    assert len(forms) == DAMAGED[name]
+    assert not damaged_differ(rrs, tmp_path, files / name, forms)
+
+
+@pytest.mark.hours
+def test_all_damaged(rrs, files, tmp_path):
+    """Each of the 200 files."""
+    forms = {name: list(damages((files / name).read_bytes())) for name in FILES}
+    assert sum(map(len, forms.values())) == DAMAGES_OF_ALL
+    with concurrent.futures.ThreadPoolExecutor(os.cpu_count()) as pool:
+        wrong = pool.map(lambda name: damaged_differ(rrs, tmp_path, files / name, forms[name]),
+                         FILES)
+        assert not sum(wrong, [])
+
+
+@pytest.mark.parametrize("name", ALL_NAMES, ids=range(1, len(ALL_NAMES) + 1))
+def test_name(rrs, files, tmp_path, name):
+    assert not name_differs(rrs, tmp_path, files / "arrays-gcc-O0-plain", name)
 
 
 # What is changed in a listing or a refusal: each must be seen.
@@ -282,7 +307,8 @@ CHANGES = (
     ("Entry point 0x", "Entry point 0x1"),
     ("LOAD", "NOTE"),
     (" R E ", " RWE "),
-    ("There are", "\n  LOAD           0x000000 0x00000000 0x00000000 0x00000 0x00000 R   0x1\nThere are"),
+    ("There are",
+     "\n  LOAD           0x000000 0x00000000 0x00000000 0x00000 0x00000 R   0x1\nThere are"),
     ("FUNC", "OBJECT"),
     (" main\n", " mein\n"),
     (" GLOBAL", " LOCAL "),
@@ -300,77 +326,51 @@ def other_field(text, line, field):
     return text[:found.start(field)] + word[:-1] + last + text[found.end(field):]
 
 
-def self_test(room, files):
-    """What is changed must be seen, in a listing and in a refusal, and what is right is passed."""
-    path = next(path for path in files if path.name == "arrays-gcc-O2-plain")
-    own, wrong = room / "changed", []
-    wrong += [said for said in [differs(path)] if said]
-    for old, new in CHANGES:
-        if not differs(path, None, lambda text, old=old, new=new: text.replace(old, new, 1)):
-            wrong.append(f"{new!r} for {old!r} is not seen")
-    for line in (SEGMENT, SYMBOL):
-        for field in range(1, 9):
-            if not differs(path, None, lambda text, way=(line, field): other_field(text, *way)):
-                wrong.append(f"another field {field} of {line.pattern} is not seen")
-    cut = path.read_bytes()[:40]
-    if differs(own, cut) or not differs(own, cut, lambda text: text.replace("rrs elf", "elf")):
-        wrong.append("a refusal without the program's name is not seen")
-    if not differs(own, path.read_bytes(), lambda text: ""):
-        wrong.append("an empty listing is not seen")
-    for shown, raw in (("a^[b", "a\x1bb"), ("a^?b", "a\x7fb"), ("[...]", "aaaaa"), ("{0x9b}", "\x9b")):
-        if not check_names(room, path, lambda text, old=shown, new=raw: text.replace(old, new))[1]:
-            wrong.append(f"{raw!r} for {shown!r} is not seen")
-    other = room / "other"
-    other.write_text(f"#!/bin/sh\n'{RRS}' \"$@\" | sed s/LOAD/NOTE/\n")
+@pytest.mark.planted
+@pytest.mark.parametrize("old, new", CHANGES)
+def test_another_listing(rrs, files, old, new):
+    """What is changed in a listing is seen."""
+    assert differs(rrs, files / PLAIN, lambda text: text.replace(old, new, 1))
+
+
+@pytest.mark.planted
+@pytest.mark.parametrize("field", range(1, 9))
+@pytest.mark.parametrize("line", [SEGMENT, SYMBOL], ids=["segment", "symbol"])
+def test_another_field(rrs, files, line, field):
+    assert differs(rrs, files / PLAIN, lambda text: other_field(text, line, field))
+
+
+@pytest.mark.planted
+def test_another_refusal(rrs, files, tmp_path):
+    """A refusal has the program's name."""
+    cut = tmp_path / "cut"
+    cut.write_bytes((files / PLAIN).read_bytes()[:40])
+    assert not differs(rrs, cut)
+    assert differs(rrs, cut, lambda text: text.replace("rrs elf", "elf"))
+
+
+@pytest.mark.planted
+def test_an_empty_listing(rrs, files):
+    assert differs(rrs, files / PLAIN, lambda text: "")
+
+
+@pytest.mark.planted
+@pytest.mark.parametrize("shown, raw", [("a^[b", "a\x1bb"), ("a^?b", "a\x7fb"), ("[...]", "aaaaa"),
+                                        ("{0x9b}", "\x9b")], ids=ascii)
+def test_another_name(rrs, files, tmp_path, shown, raw):
+    """A name that is shown otherwise is seen, of some name."""
+    wrong = [name_differs(rrs, tmp_path, files / PLAIN, name,
+                          lambda text: text.replace(shown, raw)) for name in ALL_NAMES]
+    assert any(wrong)
+
+
+@pytest.mark.planted
+def test_another_program(rrs, files, tmp_path):
+    """A program that lists something else is seen, of a file and of its damaged forms."""
+    other = tmp_path / "other"
+    other.write_text(f"#!/bin/sh\n'{rrs}' \"$@\" | sed s/LOAD/NOTE/\n")
     other.chmod(0o755)
-    for rrs, count, wanted in ((RRS, 1, 0), (other, 1, 1), (RRS, 2, 1)):
-        with contextlib.redirect_stdout(io.StringIO()):
-            status = compare(room, [path], [], (count, 0), rrs)
-        if status != wanted:
-            wrong.append(f"status {status} of {count} files by {rrs}, and it must be {wanted}")
-    print("\n".join([*wrong, f"self-test: status {int(bool(wrong))}"]))
-    return int(bool(wrong))
-
-
-def compare(room, files, chosen, wanted, rrs=RRS):
-    """Compares the listings of files, and of the damaged forms of those that are chosen. Of both there
-    must be so many as are wanted. Gives the status."""
-    with concurrent.futures.ThreadPoolExecutor(os.cpu_count()) as pool:
-        said = pool.map(lambda path: differs(path, rrs=rrs), files)
-        wrong = [f"{path.name}: {line}" for path, line in zip(files, said) if line]
-        print(f"{len(files)} files, of which {len(wrong)} are listed otherwise than by readelf")
-        count = 0
-        for more, lines in pool.map(lambda path: check_damaged(room, path), chosen):
-            count += more
-            wrong += lines
-        print(f"{count} damaged files")
-    if (len(files), count) != wanted:
-        wrong.append(f"{len(files)} files and {count} damaged ones, and there must be {wanted}")
-    names, lines = check_names(room, files[0])
-    print(f"{names} names")
-    wrong += lines
-    for line in wrong[:20]:
-        print(line)
-    print(f"{len(wrong)} differ" if wrong else "all as expected")
-    return 1 if wrong else 0
-
-
-def main(words):
-    if words not in ([], ["--all"], ["--self-test"]):
-        sys.exit(__doc__)
-    subprocess.run([ROOT / ".ci/built", "program", "rrs"], check=True)
-    tools = subprocess.run([ROOT / ".ci/tools", *TOOLS], capture_output=True, text=True, check=False)
-    if tools.returncode:
-        print(f"nothing was compared: {tools.stdout.strip()} missing")
-        return 2
-    with tempfile.TemporaryDirectory() as folder:
-        room = Path(folder)
-        files = build(room)
-        if words == ["--self-test"]:
-            return self_test(room, files)
-        chosen = [path for path in files if words or path.name in DAMAGED]
-        return compare(room, files, chosen, (200, DAMAGES_OF_ALL if words else DAMAGES))
-
-
-if __name__ == "__main__":
-    sys.exit(main(sys.argv[1:]))
+    forms = list(damages((files / PLAIN).read_bytes()))[:60]
+    assert not damaged_differ(rrs, tmp_path, files / PLAIN, forms)
+    assert differs(other, files / PLAIN)
+    assert len(damaged_differ(other, tmp_path, files / PLAIN, forms)) > 10
