@@ -83,6 +83,12 @@ def rrs():
 
 
 @pytest.fixture(scope="session")
+def is_plain(rrs):
+    """Whether the program is that of plain Rust, by its own help: no look at the input waits."""
+    return "No such look waits" in run(rrs, "board", "--help").output
+
+
+@pytest.fixture(scope="session")
 def once(tmp_path_factory):
     """Makes a folder of a name, which one process of the run fills: once(NAME, FILL)."""
     base = tmp_path_factory.getbasetemp()

@@ -4,8 +4,10 @@ import difflib
 import fcntl
 import functools
 import os
+import pty
 import shlex
 import subprocess
+import termios
 from pathlib import Path
 from typing import NamedTuple
 
@@ -34,8 +36,43 @@ def run(*words, **how):
     how.setdefault("stdout", subprocess.PIPE)
     how.setdefault("stderr", subprocess.PIPE)
     done = subprocess.run([str(word) for word in words], check=False, **how)
-    return Done(done.returncode, *((text or b"").decode("latin-1")
-                                   for text in (done.stdout, done.stderr)))
+    return Done(status_of(done.returncode), *((text or b"").decode("latin-1")
+                                              for text in (done.stdout, done.stderr)))
+
+
+def status_of(code):
+    """A status as a shell has it, where a signal ends a command too."""
+    return code if code >= 0 else 128 - code
+
+
+def at_terminal(*words, keys=None, prompt="> ", **how):
+    """Runs a command whose streams are a terminal, and what the terminal got. Keys, if there are
+    any, are typed where it asks first."""
+    seen, keys = "", (keys or "").encode("latin-1")
+    end, place = pty.openpty()
+    with subprocess.Popen([str(word) for word in words], stdin=place, stdout=place, stderr=place,
+                          start_new_session=True, preexec_fn=take_terminal, **how) as process:
+        os.close(place)
+        while part := read_of(end):
+            seen += part
+            if keys and seen.endswith(prompt):
+                os.write(end, keys)
+                keys = b""
+    os.close(end)
+    return Done(status_of(process.returncode), seen, "")
+
+
+def take_terminal():
+    """Has standard input be the terminal of a session, which Control C reaches."""
+    fcntl.ioctl(0, termios.TIOCSCTTY, 0)
+
+
+def read_of(end):
+    """What a terminal got, or an empty text at its end."""
+    try:
+        return os.read(end, 4096).decode("latin-1")
+    except OSError:
+        return ""
 
 
 def text_of(path):

@@ -21,7 +21,6 @@ SCRIPTS = (
     "docs/development/refuse-each.sh", "docs/development/refuse-each.sh --self-test",
     "bindings/check.sh", "bindings/check.sh --self-test",
     "bindings/sv/check", "bindings/sv/check --self-test",
-    "examples/rrs/check", "examples/rrs/check --self-test",
     "examples/exec/check", "examples/exec/check --self-test",
     "examples/reports/check", "examples/reports/check --self-test",
     "examples/assembly/check", "examples/assembly/check --self-test",
