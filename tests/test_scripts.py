@@ -26,7 +26,6 @@ SCRIPTS = (
     "examples/assembly/check", "examples/assembly/check --self-test",
     "examples/board/check", "examples/board/check --self-test",
     "examples/linux/check", "examples/linux/check --self-test",
-    "examples/gdb/check", "examples/gdb/check --self-test",
     "examples/machine/check", "examples/machine/check --self-test",
     "definitions/check", "definitions/check --self-test",
     "docs/development/speed/measure.py --check", "docs/development/speed/measure.py --self-test",
