@@ -26,7 +26,6 @@ SCRIPTS = (
     "examples/assembly/check", "examples/assembly/check --self-test",
     "examples/board/check", "examples/board/check --self-test",
     "examples/linux/check", "examples/linux/check --self-test",
-    "examples/machine/check", "examples/machine/check --self-test",
     "definitions/check", "definitions/check --self-test",
     "docs/development/speed/measure.py --check", "docs/development/speed/measure.py --self-test",
     "bindings/dist --check", "bindings/dist --self-test",
@@ -70,7 +69,7 @@ def test_no_script_is_left_out():
                 found.add(name)
     assert len(found) > 5
     given = {words.split()[0] for words in SCRIPTS if words.endswith("--self-test")}
-    inner = {"examples/exec/terminal", "examples/exec/debian/check", "examples/machine/model.py",
+    inner = {"examples/exec/terminal", "examples/exec/debian/check",
              "examples/reports/outputs.py"}
     assert found - inner == given
 

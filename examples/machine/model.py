@@ -3,21 +3,13 @@
 
 It makes the programs that the tests `generated_programs` and `generated_programs_with_user_mode` of
 crates/tests_machine_mode make, from the same numbers, and runs them. What it prints are the tables
-CHECKSUMS and USER_CHECKSUMS of those tests.
+CHECKSUMS and USER_CHECKSUMS of those tests, with which tests/test_machine.py compares them.
 
-usage: model.py                prints the tables
-       model.py --check        compares them with those in the test
-       model.py --self-test    tries the comparison, over tables of fewer programs that are wrong
+usage: model.py
 
 RV32IM here is what the programs use of it: loads, stores, addi, add, jumps and branches.
 """
 
-import re
-import sys
-import tempfile
-from pathlib import Path
-
-TEST = Path(__file__).resolve().parents[2] / "crates/tests_machine_mode/src/generated.rt"
 GROUPS, PROGRAMS, STEPS, WORDS = 20, 500, 24, 64
 MASK = 0xFFFFFFFF
 
@@ -396,51 +388,22 @@ def run_program(numbers, checksum, user):
     return checksum
 
 
-def checksums(user):
-    for group in range(GROUPS):
-        numbers, checksum = Numbers(group + 1), 2166136261
-        for _ in range(PROGRAMS):
-            checksum = run_program(numbers, checksum, user)
-        yield checksum
+def checksum_of(group, user, programs=PROGRAMS):
+    """The checksum of a group of programs."""
+    numbers, checksum = Numbers(group + 1), 2166136261
+    for _ in range(programs):
+        checksum = run_program(numbers, checksum, user)
+    return checksum
 
 
-def self_test():
-    """A table with another number at each place, and one that is cut off, must be seen. Gives the status."""
-    global PROGRAMS, TEST
-    PROGRAMS, failed = 1, 0
-    right = [f"0x{value:08x}" for user in (False, True) for value in checksums(user)]
-    others = [[*right[:n], "0x00000000", *right[n + 1:]] for n in range(len(right))]
-    with tempfile.TemporaryDirectory() as folder:
-        TEST = Path(folder) / "generated.rt"
-        for table, wanted in ((right, 0), *((other, 1) for other in others), (right[:-1], 1)):
-            TEST.write_text(f"const CHECKSUMS: [u32; 20] = [{', '.join(table[:GROUPS])}];\n"
-                            f"const USER_CHECKSUMS: [u32; 20] = [{', '.join(table[GROUPS:])}];",
-                            encoding="utf-8")
-            failed |= main(["--check"]) != wanted
-    print(f"self-test: status {int(failed)}")
-    return int(failed)
-
-
-def main(words):
-    if words == ["--self-test"]:
-        return self_test()
-    tables = [list(checksums(user)) for user in (False, True)]
-    if words == ["--check"]:
-        text = TEST.read_text(encoding="utf-8")
-        found = [re.search(rf"const {name}[^=]*= \[(.*?)\]", text, re.S)[1]
-                 for name in ("CHECKSUMS", "USER_CHECKSUMS")]
-        there = [[int(value.replace("_", ""), 16) for value in re.findall(r"0x[0-9a-f_]+", one)]
-                 for one in found]
-        same = there == tables
-        print("the model agrees with the test" if same else "the model and the test differ")
-        return 0 if same else 1
-    if words:
-        sys.exit(__doc__.strip())
-    for table in tables:
-        print(*(f"    0x{value >> 16:04x}_{value & 0xFFFF:04x}," for value in table), sep="\n")
+def main():
+    """Prints the tables."""
+    for user in (False, True):
+        for group in range(GROUPS):
+            value = checksum_of(group, user)
+            print(f"    0x{value >> 16:04x}_{value & 0xFFFF:04x},")
         print()
-    return 0
 
 
 if __name__ == "__main__":
-    sys.exit(main(sys.argv[1:]))
+    main()
