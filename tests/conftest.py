@@ -18,6 +18,7 @@ import pytest
 
 from support import IN_CI, ROOT, missing, need, run
 
+PROGRAM = Path(os.environ.get("RRS", ROOT / "crates/rrs/out/rrs")).resolve()
 # of each file the seconds that it took, and the least that the disk had left meanwhile
 TAKEN = defaultdict(lambda: [0.0, float("inf")])
 
@@ -28,11 +29,13 @@ def pytest_addoption(parser):
 
 
 def pytest_collection_modifyitems(config, items):
-    """Leaves out what takes an hour, unless it is asked for."""
-    if not config.getoption("hours"):
-        left_out = [item for item in items if item.get_closest_marker("hours")]
-        items[:] = [item for item in items if item not in left_out]
-        config.hook.pytest_deselected(items=left_out)
+    """Leaves out what takes an hour, unless it is asked for, and what the program of plain Rust
+    alone has, unless it is the one that is tried."""
+    are_run = {"hours": config.getoption("hours"), "plain": is_plain_rust()}
+    marks = [mark for mark, is_run in are_run.items() if not is_run]
+    left_out = [item for item in items if any(map(item.get_closest_marker, marks))]
+    items[:] = [item for item in items if item not in left_out]
+    config.hook.pytest_deselected(items=left_out)
 
 
 @pytest.hookimpl(tryfirst=True)
@@ -69,30 +72,35 @@ def pytest_terminal_summary(terminalreporter, config):
                 file.write(f"{report.nodeid.split('[')[0]}: {why}\n")
 
 
+def is_plain_rust():
+    """Whether the program is that of plain Rust, by its own help: no look at the input waits."""
+    return PROGRAM.exists() and "No such look waits" in run(PROGRAM, "board", "--help").output
+
+
 @pytest.fixture(scope="session")
 def rrs():
     """The program."""
-    given = os.environ.get("RRS")
-    if given:
-        return Path(given).resolve()
+    if "RRS" in os.environ:
+        assert PROGRAM.exists(), f"RRS is {PROGRAM}, which is not there"
+        return PROGRAM
     done = run(ROOT / ".ci/built", "program", "rrs")
     if done.status == 2:
         missing(done.errors.strip())
     assert done.status == 0, done.output + done.errors
-    return ROOT / "crates/rrs/out/rrs"
+    return PROGRAM
 
 
 @pytest.fixture(scope="session")
 def is_plain(rrs):
-    """Whether the program is that of plain Rust, by its own help: no look at the input waits."""
-    return "No such look waits" in run(rrs, "board", "--help").output
+    """Whether the program is that of plain Rust."""
+    return is_plain_rust()
 
 
 @pytest.fixture(scope="session")
-def once(tmp_path_factory):
+def once(request, tmp_path_factory):
     """Makes a folder of a name, which one process of the run fills: once(NAME, FILL)."""
     base = tmp_path_factory.getbasetemp()
-    if "PYTEST_XDIST_WORKER" in os.environ:
+    if hasattr(request.config, "workerinput"):  # which the processes of pytest -n have
         base = base.parent
 
     def make(name, fill):

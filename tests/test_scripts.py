@@ -24,7 +24,6 @@ SCRIPTS = (
     "examples/exec/check", "examples/exec/check --self-test",
     "examples/reports/check", "examples/reports/check --self-test",
     "examples/assembly/check", "examples/assembly/check --self-test",
-    "examples/board/check", "examples/board/check --self-test",
     "examples/linux/check", "examples/linux/check --self-test",
     "definitions/check", "definitions/check --self-test",
     "docs/development/speed/measure.py --check", "docs/development/speed/measure.py --self-test",
