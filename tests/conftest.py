@@ -12,13 +12,11 @@ import fcntl
 import os
 import shutil
 from collections import defaultdict
-from pathlib import Path
 
 import pytest
 
-from support import IN_CI, ROOT, missing, need, run
+from support import IN_CI, PROGRAM, ROOT, missing, need, run
 
-PROGRAM = Path(os.environ.get("RRS", ROOT / "crates/rrs/out/rrs")).resolve()
 # of each file the seconds that it took, and the least that the disk had left meanwhile
 TAKEN = defaultdict(lambda: [0.0, float("inf")])
 

@@ -16,6 +16,8 @@ import pytest
 ROOT = Path(__file__).resolve().parent.parent
 EXAMPLES = ROOT / "examples"
 IN_CI = os.environ.get("CI") == "true"
+# the program that is tried, which the fixture `rrs` has built
+PROGRAM = Path(os.environ.get("RRS", ROOT / "crates/rrs/out/rrs")).resolve()
 
 
 class Done(NamedTuple):

@@ -22,7 +22,6 @@ SCRIPTS = (
     "bindings/check.sh", "bindings/check.sh --self-test",
     "bindings/sv/check", "bindings/sv/check --self-test",
     "examples/exec/check", "examples/exec/check --self-test",
-    "examples/reports/check", "examples/reports/check --self-test",
     "examples/assembly/check", "examples/assembly/check --self-test",
     "examples/linux/check", "examples/linux/check --self-test",
     "definitions/check", "definitions/check --self-test",
@@ -68,8 +67,7 @@ def test_no_script_is_left_out():
                 found.add(name)
     assert len(found) > 5
     given = {words.split()[0] for words in SCRIPTS if words.endswith("--self-test")}
-    inner = {"examples/exec/terminal", "examples/exec/debian/check",
-             "examples/reports/outputs.py"}
+    inner = {"examples/exec/terminal", "examples/exec/debian/check"}
     assert found - inner == given
 
 

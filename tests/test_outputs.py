@@ -1,17 +1,12 @@
-#!/usr/bin/env python3
 """What rrs leaves of the files that it writes a report to, and of those beside them.
 
-usage: outputs.py RRS [--self-test]
+In a folder of its own for each trial a command is run, and its status, what it says on standard
+error, and all that is in the folder then is compared: the names, the kinds, the rights, the bytes.
+A report is to be what the same command writes to standard error where it names no file. So a file
+that is read is never written, by whatever path; an old file has all its bytes until a whole report
+takes its place; and nothing is left beside it. What is no file is written as it is.
 
-In a folder of its own for each trial a command is run, and its status, what it says on standard error,
-and all that is in the folder then is compared: the names, the kinds, the rights, the bytes. A report
-is to be what the same command writes to standard error where it names no file. So a file that is read is
-never written, by whatever path; an old file has all its bytes until a whole report takes its place; and
-nothing is left beside it. What is no file is written as it is.
-
-The status is 0 where all is as it should be, and else 1. --self-test runs commands that do more, or
-less, than rrs, which must be seen. It needs Python, and sources are assembled by rrs.
-"""
+It needs no tool: sources are assembled by rrs."""
 
 import os
 import resource
@@ -19,10 +14,11 @@ import shutil
 import signal
 import stat
 import subprocess
-import sys
 import tempfile
 import time
 from pathlib import Path
+
+import pytest
 
 # what is assembled for each trial, with -o or as raw bytes
 EXECUTABLES = {
@@ -101,7 +97,7 @@ class Trials:
         (made / "source").unlink()
 
     def report(self, *words):
-        """What a command writes to standard error where it names no file for it, and says beside."""
+        """What a command writes to standard error where it names no file, and says beside."""
         return self.run(*words)[1].encode()
 
     def compare(self, what, seen, wanted):
@@ -112,7 +108,7 @@ class Trials:
             self.wrong.append(f"{self.count}: {what}: seen and wanted: {differs}")
 
     def leaves(self, words, status, said, changes=(), before=None, **how):
-        """Runs a command, which is to end so, say so, and change no more than this of the folder."""
+        """Runs a command, which is to end so, say so, and change no more than this."""
         self.begin()
         if before:
             before(self.folder)
@@ -141,7 +137,8 @@ def limited(size):
 
 def try_read(trials):
     """No file that is read is written, nor one twice, by whatever paths."""
-    for path in ("hello", "./hello", "below/../hello", "link.hello", "again.hello", "below/hard.hello"):
+    for path in ("hello", "./hello", "below/../hello", "link.hello", "again.hello",
+                 "below/hard.hello"):
         for words in (["trace", "--output"], ["cover", "--output"], ["cover", "--callgrind"]):
             trials.leaves([*words, path, "hello"], 125, f"rrs {words[0]}: {path}: {IS_READ}\n",
                           before=links)
@@ -180,7 +177,8 @@ def try_refused(trials):
         for name, words in (("trace", []), ("cover", ["--symbols", "hello", "--callgrind", "new"])):
             trials.leaves([name, *BOARD, *words, "--output", "old", "firmware"], 125,
                           f"rrs {name}: standard output: No space left on device\n", stdout=full)
-    for path, said in (("none/", "No such file or directory"), ("none/new", "No such file or directory"),
+    for path, said in (("none/", "No such file or directory"),
+                       ("none/new", "No such file or directory"),
                        ("", "No such file or directory"), ("hello/new", "Not a directory"),
                        ("below", "Is a directory"), ("below/", "Is a directory")):
         trials.leaves(["trace", "--output", path, "hello"], 125, f"rrs trace: {path}: {said}\n")
@@ -191,8 +189,8 @@ def try_full(trials):
     for path in ("old", "link.old", "free", "new"):
         trials.leaves(["trace", "--output", path, "long"], 125, f"rrs trace: {path}: {TOO_LARGE}\n",
                       before=links, preexec_fn=limited(4096))
-        trials.leaves(["cover", "--output", path, "hello"], 125, f"rrs cover: {path}: {TOO_LARGE}\n",
-                      before=links, preexec_fn=limited(100))
+        trials.leaves(["cover", "--output", path, "hello"], 125,
+                      f"rrs cover: {path}: {TOO_LARGE}\n", before=links, preexec_fn=limited(100))
         trials.leaves(["cover", "--output", "/dev/null", "--callgrind", path, "hello"], 125,
                       f"rrs cover: {path}: {TOO_LARGE}\n", before=links, preexec_fn=limited(100))
         trials.leaves(["trace", *BOARD, "--output", path, "firmware"], 125,
@@ -211,12 +209,13 @@ def try_whole(trials):
                            ("new", "new", "0o644"), ("free", "below/new", "0o644")):
         trials.leaves(["trace", "--output", path, "hello"], 0, "", {at: (mode, log)}, before=links,
                       umask=0o022)
-        trials.leaves(["cover", "--output", path, "hello"], 0, "", {at: (mode, table)}, before=links,
-                      umask=0o022)
+        trials.leaves(["cover", "--output", path, "hello"], 0, "", {at: (mode, table)},
+                      before=links, umask=0o022)
     for mode in (0o600, 0o666, 0o755, 0o200):
         trials.leaves(["trace", "--output", "old", "hello"], 0, "", {"old": (oct(mode), log)},
                       before=lambda folder, mode=mode: (folder / "old").chmod(mode), umask=0o077)
-    trials.leaves(["trace", "--output", "new", "hello"], 0, "", {"new": ("0o600", log)}, umask=0o077)
+    trials.leaves(["trace", "--output", "new", "hello"], 0, "", {"new": ("0o600", log)},
+                  umask=0o077)
     # a hard link keeps the old bytes
     trials.leaves(["trace", "--output", "below/hard.old", "hello"], 0, "",
                   {"below/hard.old": ("0o640", log)}, before=links)
@@ -278,7 +277,8 @@ def astray(folder):
 
 
 def try_meanwhile(trials):
-    """While a program runs the old report is there. A new one that can't take its place is removed."""
+    """While a program runs the old report is there. A new one that can't take its place is
+    removed."""
     meanwhile(trials, "a folder in its place", in_its_place, "Is a directory")
     # the old one is not removed before the new one has its name
     meanwhile(trials, "no new one", lambda folder: (folder / ".rrs-new-0").unlink(),
@@ -292,14 +292,16 @@ def in_its_place(folder):
 
 
 def meanwhile(trials, what, change, said):
-    """Changes a folder while a program runs in it: its report is refused then, and no more is changed."""
+    """Changes a folder while a program runs in it: its report is refused then, and no more is
+    changed."""
     trials.begin()
     with subprocess.Popen([trials.rrs, "trace", "--output", "old", "reader"], cwd=trials.folder,
                           stdin=subprocess.PIPE, stderr=subprocess.PIPE) as running:
         until = time.monotonic() + 30
         while not (trials.folder / ".rrs-new-0").exists() and time.monotonic() < until:
             time.sleep(0.01)
-        trials.compare("while it runs", {"old": told(trials.folder / "old")}, {"old": ("0o640", OLD)})
+        trials.compare("while it runs", {"old": told(trials.folder / "old")},
+                       {"old": ("0o640", OLD)})
         change(trials.folder)
         wanted = {**all_in(trials.folder)}
         wanted.pop(".rrs-new-0", None)
@@ -323,22 +325,33 @@ def try_rights(trials):
                       before=guard, **nobody)
 
 
-def trials_of(rrs):
-    """What is wrong of a program, and how many trials there were."""
+# what is tried, and how many trials that is
+TRIED = {try_read: 34, try_refused: 21, try_full: 17, try_whole: 21, try_others: 9,
+         try_meanwhile: 2, try_rights: 3}
+
+
+def trials_of(rrs, *tried):
+    """What is wrong of a program, and how many trials there were. The folder is one that others can
+    read too, and so can run the copy of the program there."""
+    before = os.umask(0o022)
     with tempfile.TemporaryDirectory() as room:
         os.chmod(room, 0o755)
-        # a copy, which others can run
         shutil.copy(rrs, Path(room) / "rrs")
-        os.umask(0o022)
         trials = Trials(Path(room) / "rrs", room)
         trials.make()
-        for tried in (try_read, try_refused, try_full, try_whole, try_others, try_meanwhile,
-                      try_rights):
-            tried(trials)
-        return trials.wrong, trials.count
+        for one in tried:
+            one(trials)
+    os.umask(before)
+    return trials.wrong, trials.count
 
 
-# commands that do more than rrs, or less: what they do before and after, to files of the folder alone
+@pytest.mark.parametrize("tried", TRIED, ids=lambda tried: tried.__name__[4:])
+def test_outputs(rrs, tried):
+    assert trials_of(rrs, tried) == ([], TRIED[tried])
+
+
+# commands that do more than rrs, or less: what they do before and after, to files of the folder
+# alone
 WRONG = {
     "nothing": (":", ":"),
     "emptied": ('[ ! -f "$to" ] || : >"$to"', ":"),
@@ -367,41 +380,17 @@ exit $status
 """
 
 
-def self_test(rrs, count):
-    """Which wrong commands are not seen."""
-    wrong = []
-    for name, (before, after) in WRONG.items():
-        with tempfile.TemporaryDirectory() as room:
-            os.chmod(room, 0o755)
-            own = shutil.copy(rrs, Path(room) / "own")
-            file = Path(room) / "wrong"
-            file.write_text(WRAPPER.format(rrs=own, before=before, after=after))
-            file.chmod(0o755)
-            seen, made = trials_of(file)
-        if bool(seen) != (name != "nothing") or made != count:
-            wrong.append(f"{name}: {made} trials, {seen[:2]}")
-    return wrong
-
-
-# how many trials there are
-COUNT = 107
-
-
-def main(words):
-    """Tries a program, or this script."""
-    if len(words) not in (1, 2) or words[1:] not in ([], ["--self-test"]):
-        sys.exit(__doc__)
-    rrs = Path(words[0]).resolve()
-    if words[1:]:
-        wrong, count = self_test(rrs, COUNT), COUNT
-    else:
-        wrong, count = trials_of(rrs)
-    if count != COUNT:
-        wrong.append(f"{count} trials, and there must be {COUNT}")
-    print("\n".join([*wrong, f"{count} trials of what is written: "
-                             + ("differs" if wrong else "as expected")]))
-    return int(bool(wrong))
-
-
-if __name__ == "__main__":
-    sys.exit(main(sys.argv[1:]))
+@pytest.mark.planted
+@pytest.mark.parametrize("name", WRONG)
+def test_another_rrs(rrs, name):
+    """Each wrong command is seen."""
+    before, after = WRONG[name]
+    with tempfile.TemporaryDirectory() as room:
+        os.chmod(room, 0o755)
+        own = shutil.copy(rrs, Path(room) / "own")
+        file = Path(room) / "wrong"
+        file.write_text(WRAPPER.format(rrs=own, before=before, after=after))
+        file.chmod(0o755)
+        seen, made = trials_of(file, *TRIED)
+    assert bool(seen) == (name != "nothing")
+    assert made == sum(TRIED.values()) == 107

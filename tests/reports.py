@@ -1,16 +1,14 @@
-#!/usr/bin/env python3
-"""Compares what `rrs dis`, `rrs trace` and `rrs cover` write with what others write.
-
-usage: check [--self-test]
+"""How what `rrs dis`, `rrs trace` and `rrs cover` write is compared with what others write. Each
+comparison gives what differs, and its tests are those of test_reports.py.
 
 `rrs dis` beside `objdump -d` of GNU binutils:
 
 Programs of examples/exec are built by its `cc`, some without symbols. Of each the disassembly is
 compared line by line: the sections, the symbols, the addresses, the words, the mnemonics, the
-operands, and where jumps go. Texts that the kit writes in another way are compared by what they say:
-whole values of lui and auipc, and numbers in another base. Where several symbols have an address
-objdump may name another of them, so names are compared by the address that nm gives. Where no symbol
-goes before an address, objdump names the section, and rrs dis names nothing.
+operands, and where jumps go. Texts that the kit writes in another way are compared by what they
+say: whole values of lui and auipc, and numbers in another base. Where several symbols have an
+address objdump may name another of them, so names are compared by the address that nm gives. Where
+no symbol goes before an address, objdump names the section, and rrs dis names nothing.
 
 How many lines a program has is compared too. One of the programs has compressed code. And of all
 49,152 half-words that begin no word, each beside objdump's, the text says the same, or is `.half`
@@ -22,70 +20,47 @@ executes, and can tell all registers too. Of each program
   - the log has a line for each instruction, with its pc, its word, and the register and the access
     that the word has, in Spike's form;
   - the lines of some steps, as the options of `rrs trace` name them, are those of the whole log;
-  - of programs with a stack of their own, whose registers are the same under both, each line is that
-    which qemu's registers make;
+  - of programs with a stack of their own, whose registers are the same under both, each line is
+    that which qemu's registers make;
   - the counts beside the disassembly are how often each pc was executed;
   - the summary has of each function that shares no instruction with another, as nm tells them, how
     many of its instructions were executed, how many it has, how often it was entered, and how many
     steps were made in it;
   - `callgrind_annotate` reads the profile without a warning, and finds these steps, and as many in
     all.
-Among them are loads and stores at misaligned addresses, and the instructions of extension A. One has
-compressed code, of which the log is not compared.
-`lcov` tells how often each line of a source was executed, and how often each function was entered,
-and `genhtml` finds these.
+Among them are loads and stores at misaligned addresses, and the instructions of extension A. One
+has compressed code, of which the log is not compared. `lcov` tells how often each line of a source
+was executed, and how often each function was entered, and `genhtml` finds these.
 
 `rrs trace --board` and `rrs cover --board` beside `qemu-system-riscv32`, which tells the pc, the
 privilege mode, the registers and the CSRs before each instruction that it executes, and each
 exception and interrupt. Of firmware of examples/board
   - the first lines of the log, as far as QEMU's CSRs are those of the board, are those which these
-    make: up to an ebreak, whose mtval is 0 in QEMU; of atomics.c up to the first trap, which takes a
-    reservation away there;
+    make: up to an ebreak, whose mtval is 0 in QEMU; of atomics.c up to the first trap, which takes
+    a reservation away there;
   - the other lines are so but for the values, up to a misaligned access, which succeeds in QEMU;
   - of uart.c and user.c the counts, the summary and the profile are as above.
 What a1 and a2 are at the start in QEMU is taken as 0.
 
-`rrs trace` and `rrs cover` alone, by outputs.py: what they leave of the files that they write, where
-a run is refused, where a disk is full, and where paths are links.
-
 Of a program whose `main` faults, what is written is the same where `main` has another name, but for
-that name, in which an escape and a line feed are shown as readelf shows them. And 100,000 functions,
-each within all before it, are counted within ten seconds.
-
-The status is 0 where all agree, 1 where something differs, and 2 where a tool is missing, without which
-outputs.py is run. --self-test changes what rrs writes in ways that must be seen.
-"""
+that name, in which an escape and a line feed are shown as readelf shows them. And 100,000
+functions, each within all before it, are counted within ten seconds. """
 
 import bisect
-import contextlib
-import io
 import os
 import re
 import struct
 import subprocess
-import sys
-import tempfile
 from collections import Counter
 from pathlib import Path
 
-import outputs
+from support import EXAMPLES, ROOT, run
+from support import PROGRAM as RRS
 
-HERE = Path(__file__).resolve().parent
-ROOT = HERE.parent.parent
-RRS = ROOT / "crates/rrs/out/rrs"
-os.environ["RRS"] = str(RRS)
-CC = ROOT / "examples/exec/cc"
+CC = EXAMPLES / "exec/cc"
 OBJDUMP = "riscv64-unknown-elf-objdump"
 NM = "riscv64-unknown-elf-nm"
-TOOLS = (
-    "riscv64-unknown-elf-gcc=gcc-riscv64-unknown-elf",
-    "/usr/lib/picolibc/riscv64-unknown-elf/picolibc.specs=picolibc-riscv64-unknown-elf",
-    f"{OBJDUMP}=binutils-riscv64-unknown-elf",
-    "qemu-riscv32=qemu-user",
-    "qemu-system-riscv32=qemu-system-misc",
-    "callgrind_annotate=valgrind",
-    "genhtml=lcov",
-)
+GCC = "riscv64-unknown-elf-gcc"
 # programs of examples/exec, with the options of the compiler
 PROGRAMS = {
     "hello": ["-O2"],
@@ -105,8 +80,8 @@ RUN = {"hello": 2841, "programs/jumps": 5191, "programs/trees": 5756, "trials/mi
 OPTIONS = {"trials/atomics": ["-march=rv32ima"], "programs/sorted": ["-march=rv32imac"]}
 # programs with a stack of their own, and how many steps they make
 OWN = {"examples/c/primes.c": 11551, "examples/reports/mended.c": 715}
-# firmware of examples/board: before which line the values of its log are compared, before which one the
-# lines without them are, and how many lines these are
+# firmware of examples/board: before which line the values of its log are compared, before which one
+# the lines without them are, and how many lines these are
 FIRMWARE = {"uart": (None, None, 1002, 1002), "user": ("trap_breakpoint", None, 1580, 17015),
             "traps": ("trap_breakpoint", "trap_load_address_misaligned", 553, 2880),
             "atomics": ("exception", "exception", 59378, 59378)}
@@ -125,10 +100,9 @@ stack_end:
 LINE = re.compile(r"\s*([0-9a-f]+):\t([0-9a-f]+)\s+\t(\S+)(?:\s+(.*))?$")
 
 
-def run(*words):
-    """The status of a command, what it prints, and what it says on standard error."""
-    done = subprocess.run(words, stdin=subprocess.DEVNULL, capture_output=True, check=False)
-    return done.returncode, done.stdout.decode("latin-1"), done.stderr.decode("latin-1")
+def unchanged(text):
+    """A text as it stands."""
+    return text
 
 
 def number(word):
@@ -173,8 +147,8 @@ def operands(name, text, address, is_ours, symbols):
 
 
 def half_of(name, text, half):
-    """The name of a half-word and its operands in objdump's text, as RV32C without floating point has
-    it: shifts by 0 are those of 64 bits to objdump, and what is no instruction is `.half`."""
+    """The name of a half-word and its operands in objdump's text, as RV32C without floating point
+    has it: shifts by 0 are those of 64 bits to objdump, and what is no instruction is `.half`."""
     text = (text or "").strip()
     if name in ("c.slli64", "c.srli64", "c.srai64"):
         return name[:-2], text + ",0"
@@ -207,14 +181,7 @@ def listed(text, is_ours, symbols):
     return lines
 
 
-def compare(room, name, change=lambda text: text):
-    """What differs of a program between the two, and how many lines there are."""
-    path = str(room / Path(name).name)
-    subprocess.run([CC, ROOT / f"examples/exec/{name}.c", "-o", path, *PROGRAMS[name]], check=True)
-    return compare_file(path, change)
-
-
-def compare_file(path, change):
+def compare_file(path, change=unchanged):
     """What differs of an executable between the two, and how many lines there are."""
     status, text, said = run(RRS, "dis", path)
     if status:
@@ -223,7 +190,8 @@ def compare_file(path, change):
     text = change(text)
     own = listed(text, True, symbols)
     wanted = listed(run(OBJDUMP, "-d", "-z", "-M", "no-aliases,numeric", path)[1], False, symbols)
-    differs = [] if text.startswith(f"\n{path}:     file format elf32-littleriscv\n\n") else [text[:80]]
+    title = f"\n{path}:     file format elf32-littleriscv\n\n"
+    differs = [] if text.startswith(title) else [text[:80]]
     for mine, theirs in zip(own + [None] * len(wanted), wanted + [None] * len(own)):
         if mine != theirs:
             differs.append(f"{mine}, and not {theirs}")
@@ -234,13 +202,17 @@ def compare_file(path, change):
 HALVES = 49152
 
 
-def compare_halves(room, change=lambda text: text):
-    """What differs of the half-words that begin no word, in an executable of nothing else."""
-    source, path = room / "halves.S", str(room / "halves")
+def build_halves(room):
+    """Builds an executable of the half-words that begin no word, and of nothing else."""
+    source = room / "halves.S"
     halves = "".join(f".half {half}\n" for half in range(2**16) if half % 4 != 3)
     source.write_text(f".option rvc\n.globl _start\n_start:\n{halves}")
-    subprocess.run([OBJDUMP.replace("objdump", "gcc"), "-march=rv32imac", "-mabi=ilp32", "-nostdlib", "-s",
-                    "-Ttext=0x10000", source, "-o", path], check=True)
+    subprocess.run([GCC, "-march=rv32imac", "-mabi=ilp32", "-nostdlib", "-s", "-Ttext=0x10000",
+                    source, "-o", room / "halves"], check=True)
+
+
+def compare_halves(path, change=unchanged):
+    """What differs of the half-words that begin no word."""
     differs, count = compare_file(path, change)
     return differs if count == HALVES + 1 else [f"{count} lines", *differs]
 
@@ -350,7 +322,8 @@ def states(room, program):
     subprocess.run(["qemu-riscv32", "-singlestep", "-d", "nochain,cpu", "-D", log, program.path],
                    stdin=subprocess.DEVNULL, stdout=subprocess.DEVNULL, check=False)
     told = log.read_text().split(" pc       ")[1:]
-    return [(int(text[:8], 16), [int(value, 16) for value in re.findall(r"/\w+ +([0-9a-f]{8})", text)])
+    return [(int(text[:8], 16),
+             [int(value, 16) for value in re.findall(r"/\w+ +([0-9a-f]{8})", text)])
             for text in told]
 
 
@@ -379,13 +352,14 @@ SHAPE = re.compile(r"core   0: 3 0x[0-9a-f]{8} \(0x[0-9a-f]{8}\)(?: x\d\d? {1,2}
 
 
 def bare(line):
-    """A line of the log without the values, which the stack's place changes, and with their sizes."""
+    """A line of the log without the values, which the stack's place changes, and with their
+    sizes."""
     head, rest = line[:35], line[35:]
     dots = re.sub(r"0x([0-9a-f]+)", lambda value: "." * len(value[1]), rest)
     return head + dots if SHAPE.match(line) else line
 
 
-def compare_log(room, program, pcs, change):
+def compare_log(room, program, pcs, change=unchanged):
     """What differs of the log between rrs and qemu."""
     text, differs = reported(room, program, "trace")
     own = change(text).split("\n")
@@ -403,7 +377,7 @@ def places_of(lines):
         yield pc
 
 
-def compare_windows(room, program, pcs, change):
+def compare_windows(room, program, pcs, change=unchanged):
     """What differs of the lines of some steps from those lines of the whole log."""
     text, differs = reported(room, program, "trace")
     lines = text.splitlines()
@@ -424,7 +398,7 @@ def compare_windows(room, program, pcs, change):
     return differs[:3]
 
 
-def compare_states(room, program, change):
+def compare_states(room, program, change=unchanged):
     """What differs of the whole log, where the registers are the same under both."""
     told = states(room, program)
     text, differs = reported(room, program, "trace")
@@ -434,7 +408,7 @@ def compare_states(room, program, change):
     return differs + differing("log", change(text).split("\n"), wanted + [""]), len(told)
 
 
-def compare_counts(room, program, pcs, change):
+def compare_counts(room, program, pcs, change=unchanged):
     """What differs of the counts beside the disassembly."""
     text, differs = reported(room, program, "cover", "--annotate")
     counts = Counter(pcs)
@@ -464,7 +438,7 @@ def functions_in(program, pcs):
             for start, (end, _) in program.functions.items()}
 
 
-def compare_summary(room, program, pcs, change):
+def compare_summary(room, program, pcs, change=unchanged):
     """What differs of the summary by function."""
     text, differs = reported(room, program, "cover")
     lines = [re.findall(r"^ *(\d+) +(\d+) +(\d+) +(\d+)  (.*)$", line) or [(line,) * 5]
@@ -488,7 +462,7 @@ def compare_summary(room, program, pcs, change):
     return differs
 
 
-def compare_profile(room, program, pcs, change):
+def compare_profile(room, program, pcs, change=unchanged):
     """What `callgrind_annotate` finds in the profile."""
     file = room / "profile"
     said = reported(room, program, "cover", "--callgrind", file)[1]
@@ -518,54 +492,29 @@ COMPARED = (compare_log, compare_windows, compare_counts, compare_summary, compa
 COMPRESSED = (compare_counts, compare_summary, compare_profile)
 
 
-def built(room, name):
-    """A program of examples/exec, as it is built."""
-    path = room / f"run-{Path(name).name}"
-    subprocess.run([CC, ROOT / f"examples/exec/{name}.c", "-o", path, "-O2", *OPTIONS.get(name, [])],
-                   check=True)
-    return Program(path)
+def build(room):
+    """Builds all programs that are compared."""
+    for name, options in PROGRAMS.items():
+        compile_with(room / Path(name).name, f"exec/{name}.c", *options)
+    for name in RUN:
+        compile_with(room / f"run-{Path(name).name}", f"exec/{name}.c", "-O2",
+                     *OPTIONS.get(name, []))
+    (room / "start.S").write_text(START)
+    for source in OWN:
+        subprocess.run([GCC, "-march=rv32ima", "-mabi=ilp32", "-O1", "-ffreestanding", "-nostdlib",
+                        "-Wl,--no-warn-rwx-segments", room / "start.S", ROOT / source, "-lgcc",
+                        "-o", room / Path(source).stem], check=True)
+    subprocess.run([EXAMPLES / "board/build", room], check=True)
+    build_halves(room)
 
 
-def built_alone(room, source):
-    """A program with a stack of its own."""
-    start, path = room / "start.S", room / Path(source).stem
-    start.write_text(START)
-    subprocess.run(["riscv64-unknown-elf-gcc", "-march=rv32ima", "-mabi=ilp32", "-O1",
-                    "-ffreestanding", "-nostdlib", "-Wl,--no-warn-rwx-segments", start, ROOT / source,
-                    "-lgcc", "-o", path],
-                   check=True)
-    return Program(path)
+def compile_with(path, source, *options):
+    """Compiles a source of examples as people do."""
+    subprocess.run([CC, EXAMPLES / source, "-o", path, *options], check=True)
 
 
-def same(text):
-    """A text as it stands."""
-    return text
-
-
-def compare_runs(room, steps_of, own_steps):
-    """Whether something differs of what is reported of runs, which make so many steps."""
-    failed = False
-    for name, steps in steps_of.items():
-        program = built(room, name)
-        pcs = executed(room, program)
-        differs = [f"{len(pcs)} steps, and there must be {steps}"] if len(pcs) != steps else []
-        for compared in COMPRESSED if program.is_compressed else COMPARED:
-            differs += compared(room, program, pcs, same)
-        failed |= bool(differs)
-        print(f"{name}: {len(pcs)} steps, " + ("as expected" if not differs else "differs"))
-        print("".join(f"  {line}\n" for line in differs), end="")
-    for source, wanted in own_steps.items():
-        differs, steps = compare_states(room, built_alone(room, source), same)
-        if steps != wanted:
-            differs.append(f"{steps} steps, and there must be {wanted}")
-        print(f"{source}: {steps} lines, " + ("as expected" if not differs else "differs"))
-        print("".join(f"  {line}\n" for line in differs), end="")
-        failed |= bool(differs)
-    return failed
-
-
-# what QEMU logs: an instruction with its pc, the lowest bits of its flags, which are the mode, and what
-# the registers and the CSRs were before it; or an exception
+# what QEMU logs: an instruction with its pc, the lowest bits of its flags, which are the mode, and
+# what the registers and the CSRs were before it; or an exception
 LOGGED = re.compile(r"Trace .*?\[[0-9a-f]+/([0-9a-f]+)/[0-9a-f]*([0-9a-f])/.*\n((?: .*\n)*)"
                     r"|riscv_cpu_do_interrupt: .*async:(\d), cause:(\w+), epc:0x(\w+), tval:0x(\w+)"
                     r"|cpu_io_recompile: rewound .* to (\w+)")
@@ -580,10 +529,11 @@ START_VALUES = {0x87e00000: 0, 0x1028: 0}
 
 
 def board_steps(room, program):
-    """What qemu-system-riscv32 does of firmware: of each instruction its pc, its mode, and the registers
-    and the CSRs before it; and of each trap its pc, its code, its value and whether it is an interrupt.
-    Its time goes by its instructions (-icount), so that a timer's interrupt comes where it always does,
-    however long the log takes. An instruction that reaches a device is then logged twice."""
+    """What qemu-system-riscv32 does of firmware: of each instruction its pc, its mode, and the
+    registers and the CSRs before it; and of each trap its pc, its code, its value and whether it is
+    an interrupt. Its time goes by its instructions (-icount), so that a timer's interrupt comes
+    where it always does, however long the log takes. An instruction that reaches a device is then
+    logged twice."""
     log = room / "steps"
     subprocess.run(["qemu-system-riscv32", "-M", "virt", "-bios", "none", "-display", "none",
                     "-monitor", "none", "-serial", "stdio", "-singlestep", "-icount",
@@ -600,7 +550,8 @@ def board_steps(room, program):
                 steps.pop()  # it raised the exception, and did not retire
             steps.append(("trap", int(epc, 16), int(code, 16), int(value, 16), is_interrupt == "1"))
         elif int(pc, 16) in program.words:
-            csrs = {csr: int(number, 16) for csr, number in re.findall(r"^ (\w+) +(\w{8})$", told, re.M)}
+            csrs = {csr: int(number, 16)
+                    for csr, number in re.findall(r"^ (\w+) +(\w{8})$", told, re.M)}
             registers = [int(number, 16) for number in re.findall(r"x\d+/\w+ +(\w{8})", told)]
             registers = [START_VALUES.get(number, number) for number in registers]
             steps.append(("step", int(pc, 16), int(mode, 16) % 4, registers, csrs))
@@ -626,7 +577,8 @@ def board_lines(program, steps):
     lines = []
     for place, step in enumerate(steps):
         if step[0] == "step":
-            after = next((other for other in steps[place + 1:place + 3] if other[0] == "step"), step)
+            after = next((other for other in steps[place + 1:place + 3] if other[0] == "step"),
+                         step)
             lines.append(board_line(step, program.words[step[1]], after))
             continue
         _, pc, code, value, is_interrupt = step
@@ -643,10 +595,10 @@ def without_values(line):
     return head + mark + re.sub("0x([0-9a-f]+)", lambda value: "." * len(value[1]), rest)
 
 
-def compare_board(room, name, change=same, counts=None):
+def compare_board(room, path, change=unchanged, counts=None):
     """What differs of the log of firmware, and of what is counted of it where all of its run is
     compared."""
-    program = Program(room / f"{name}.elf", "--board")
+    name, program = path.stem, Program(path, "--board")
     steps = board_steps(room, program)
     text, differs = reported(room, program, "trace")
     own, wanted = change(text).splitlines(), board_lines(program, steps)
@@ -662,20 +614,8 @@ def compare_board(room, name, change=same, counts=None):
         pcs = [step[1] for step in steps if step[0] == "step" or step[2:] == (8, 0, False)
                or step[2:] == (11, 0, False)]
         for compared in COMPARED[1:]:
-            differs += compared(room, program, pcs, same)
+            differs += compared(room, program, pcs, unchanged)
     return differs
-
-
-def compare_boards(room):
-    """Whether something differs of what is reported of firmware."""
-    subprocess.run([ROOT / "examples/board/build", room], check=True)
-    failed = False
-    for name, (*_, count) in FIRMWARE.items():
-        differs = compare_board(room, name)
-        print(f"{name}: {count} lines, " + ("as expected" if not differs else "differs"))
-        print("".join(f"  {line}\n" for line in differs), end="")
-        failed |= bool(differs)
-    return failed
 
 
 # a source, how often each of its lines is executed, and each of its functions entered
@@ -699,14 +639,19 @@ ENTERED = {"half": (2, 10), "never": (5, 0), "main": (7, 1)}
 FOUND = ["  lines......: 81.8% (9 of 11 lines)", "  functions..: 66.7% (2 of 3 functions)"]
 
 
-def compare_lcov(room, change=same, options=()):
+def of_lcov(*words):
+    """How the script `lcov` ends."""
+    return run(EXAMPLES / "reports/lcov", *words, env={**os.environ, "RRS": str(RRS)})
+
+
+def compare_lcov(room, change=unchanged, options=()):
     """What differs of the counts of lines and functions."""
     source, path, file = room / "lines.c", room / "lines", room / "lines.info"
     source.write_text(COUNTED)
     subprocess.run([CC, "-g", source, "-o", path, *options], check=True)
-    refused = [run(HERE / "lcov", *words)[0]
+    refused = [of_lcov(*words)[0]
                for words in [(room / "none" / "file", path), (file, "--limit", "10", path)]]
-    said = run(HERE / "lcov", file, "--limit=100000", path)
+    said = of_lcov(file, "--limit=100000", path)
     wanted = [f"TN:\nSF:{source}", *(f"FN:{line},{name}" for name, (line, _) in ENTERED.items()),
               *(f"FNDA:{count},{name}" for name, (_, count) in ENTERED.items()),
               f"FNF:{len(ENTERED)}", f"FNH:{sum(bool(count) for _, count in ENTERED.values())}",
@@ -739,7 +684,7 @@ def all_reports(room, path):
     return [*texts, report.read_text()]
 
 
-def compare_names(room, change=same):
+def compare_names(room, change=unchanged):
     """What differs where a name has control characters."""
     source, path = room / "faulty.c", room / "faulty"
     source.write_text(FAULTY)
@@ -772,7 +717,8 @@ def nested(count):
 
 
 def compare_nested(room, seconds=10):
-    """What differs of the counts of functions within functions, which take so many seconds at most."""
+    """What differs of the counts of functions within functions, which take so many seconds at
+    most."""
     path, report = room / "nested", room / "report"
     path.write_bytes(nested(100_000))
     try:
@@ -780,175 +726,5 @@ def compare_nested(room, seconds=10):
                        check=True, timeout=seconds)
     except subprocess.SubprocessError as error:
         return [str(error)]
-    return differing("line", report.read_text().splitlines()[-1:], [f"{3:8} {100_003:8} {3:12} {3:12}  (all)"])
-
-
-# what is changed, once at its first place and once at its last
-CHANGES = (("\taddi x", "\tandi x"), (">:\n", "+>:\n"), ("Disassembly of section", "Disassembly"),
-           (":\t0", ":\t1"), ("   1", "   2"), (", 0x", ", 0x1"), ("+0x", "+0x1"), ("\tlw x", "\tlh x"),
-           ("file format", "format"), ("\n", "\nmore\n"))
-
-
-# what is changed of the disassembly of the half-words
-HALF_CHANGES = (("c.lwsp", "c.lw"), ("(x2)", "(x8)"), ("c.jr x1", "c.jr x2"), (":\t6", ":\t7"),
-                (".half 0x6101", "c.addi16sp x2, 0"), ("c.lui x8, 0x", "c.lui x8, 0x1"))
-
-
-def replaced(text, old, new, is_last):
-    """A text with another word in the place of its first one, or of its last one."""
-    before, word, behind = text.rpartition(old) if is_last else text.partition(old)
-    return before + new + behind if word else text
-
-
-# what is changed of the reports of a run, at the first place, at the last one, or at each of the two
-FIRST, LAST, EACH = (False,), (True,), (False, True)
-RUN_CHANGES = (
-    (compare_log, "core   0: 3", "core   0: 0", EACH), (compare_log, ") x", ") y", EACH),
-    (compare_log, " mem ", " ", EACH), (compare_log, "\n", "\n\n", EACH),
-    (compare_log, "0x0001", "0x0002", EACH), (compare_log, " x1", " x2", EACH),
-    (compare_windows, "core   0: 3", "core   0: 0", EACH), (compare_windows, "\n", "\n\n", EACH),
-    (compare_counts, "   1  ", "   2  ", EACH), (compare_counts, "   0  ", "   1  ", EACH),
-    (compare_summary, " 1 ", " 2 ", LAST),
-    (compare_summary, "27  __retarget", "28  __retarget", EACH),
-    (compare_summary, "  main", "  mane", EACH), (compare_summary, "(all)", "all", EACH),
-    (compare_summary, "  main", "  main\n", EACH),
-    (compare_profile, " 1\n", " 2\n", LAST), (compare_profile, "\nfn=", "\ncfn=", FIRST),
-    (compare_profile, "\n0x", "\n1 2 3\n0x", FIRST),
-)
-
-
-# what is changed of the log of a program with a stack of its own
-OWN_CHANGES = ((" 0x000000", " 0x000001"), (" mem 0x0001", " mem 0x0002"), (" x15 ", " x14 "))
-
-
-def self_test_runs(room):
-    """The changes of reports that are not seen, and what differs where nothing is changed."""
-    program = built(room, "hello")
-    pcs = executed(room, program)
-    wrong = [line for compared in COMPARED for line in compared(room, program, pcs, same)]
-    for compared, old, new, ends in RUN_CHANGES:
-        for is_last in ends:
-            if not compared(room, program, pcs,
-                            lambda text, way=(old, new, is_last): replaced(text, *way)):
-                wrong.append(f"{compared.__name__}: {new!r} for {old!r} is not seen, "
-                             f"the last {is_last}")
-    if not compare_log(room, program, pcs, lambda text: text.rstrip().rsplit("\n", 1)[0] + "\n"):
-        wrong.append("a log without its last line is not seen")
-    for source in OWN:
-        own = built_alone(room, source)
-        wrong += compare_states(room, own, same)[0]
-        for old, new in OWN_CHANGES:
-            for is_last in (False, True):
-                if not compare_states(room, own,
-                                      lambda text, way=(old, new, is_last): replaced(text, *way))[0]:
-                    wrong.append(f"{new!r} for {old!r} is not seen in the log of {source}, "
-                                 f"the last {is_last}")
-    return wrong
-
-
-# what is changed of the log of user.c, whose first lines are compared with their values
-BOARD_CHANGES = (("core   0: 0 ", "core   0: 3 ", EACH), ("core   0: 3 ", "core   0: 0 ", EACH),
-                 (" c773_", " c774_", FIRST), (" c768_mstatus", " c768_mstatush", EACH),
-                 (" mem 0x8", " mem 0x9", FIRST), (" 0x0000", " 0x0001", FIRST),
-                 ("trap_user", "trap_machine", EACH), (", epc 0x8", ", epc 0x9", EACH),
-                 ("tval 0x", "tval 0x1", EACH), ("interrupt #3", "interrupt #7", EACH),
-                 ("exception", "exceptional", EACH), ("core   0: 3", "core   1: 3", EACH))
-
-
-def self_test_boards(room):
-    """The changes of a board's log that are not seen, and what differs where nothing is changed."""
-    subprocess.run([ROOT / "examples/board/build", room], check=True)
-    wrong = compare_board(room, "user")
-    for old, new, ends in BOARD_CHANGES:
-        for is_last in ends:
-            if not compare_board(room, "user",
-                                 lambda text, way=(old, new, is_last): replaced(text, *way)):
-                wrong.append(f"{new!r} for {old!r} is not seen on a board, the last {is_last}")
-    if not compare_board(room, "user", lambda text: text.rstrip().rsplit("\n", 1)[0]):
-        wrong.append("a log of a board without its last line is not seen")
-    if not compare_board(room, "user", same, (1580, 17014)):
-        wrong.append("another number of lines is not seen")
-    return wrong
-
-
-def self_test(room):
-    """Each change must be seen, and none where nothing is changed."""
-    wrong = compare(room, "hello")[0]
-    for old, new in CHANGES:
-        for is_last in (False, True):
-            if not compare(room, "hello", lambda text, way=(old, new, is_last): replaced(text, *way))[0]:
-                wrong.append(f"{new!r} for {old!r} is not seen, the last {is_last}")
-    for count in (1, 2):
-        if not compare(room, "hello", lambda text, count=count: text.rstrip().rsplit("\n", count)[0])[0]:
-            wrong.append(f"a disassembly without its last {count} lines is not seen")
-    wrong += compare_halves(room)
-    for old, new in HALF_CHANGES:
-        for is_last in (False, True):
-            if not compare_halves(room, lambda text, way=(old, new, is_last): replaced(text, *way)):
-                wrong.append(f"{new!r} for {old!r} is not seen of half-words, the last {is_last}")
-    wrong += self_test_runs(room)
-    wrong += self_test_boards(room)
-    wrong += compare_lcov(room)
-    for old, new in (("\nDA:9,11", "\nDA:9,10"), ("FNDA:10,half", "FNDA:11,half"),
-                     ("FN:5,never", "FN:6,never")):
-        if not compare_lcov(room, lambda text, way=(old, new): text.replace(*way)):
-            wrong.append(f"{new!r} for {old!r} is not seen")
-    primes = dict([next(iter(OWN.items()))])
-    hello = {"hello": LINES["hello"]}, {"hello": RUN["hello"]}, primes
-    wrong += compare_names(room) + compare_nested(room)
-    if not compare_names(room, lambda text: text.replace("^J", "\n")):
-        wrong.append("a raw line feed is not seen")
-    if not compare_nested(room, 0.001):
-        wrong.append("what takes longer is not seen")
-    less = {"hello": 1}
-    for given, wanted in ((hello, 0), ((less, *hello[1:]), 1), ((hello[0], less, primes), 1),
-                          ((*hello[:2], dict.fromkeys(primes, 1)), 1)):
-        with contextlib.redirect_stdout(io.StringIO()):
-            status = compare_all(room, *given)
-        if status != wanted:
-            wrong.append(f"status {status} where there must be {given}")
-    print("\n".join([*wrong, f"self-test: status {int(bool(wrong))}"]))
-    return int(bool(wrong))
-
-
-def compare_all(room, lines, steps, own_steps):
-    """Compares all of some programs, which have so many lines and make so many steps. Gives the status."""
-    failed, counts = 0, {}
-    for name in lines:
-        differs, counts[name] = compare(room, name)
-        print(f"{name}: {counts[name]} lines, " + ("as expected" if not differs else "differs"))
-        print("".join(f"  {line}\n" for line in differs), end="")
-        failed |= bool(differs)
-    if counts != lines:
-        print(f"lines were {counts}, and there must be {lines}")
-        failed = 1
-    failed |= compare_runs(room, steps, own_steps)
-    failed |= compare_boards(room)
-    differs = compare_halves(room)
-    print("half-words: " + ("as expected" if not differs else f"differs: {differs}"))
-    failed |= bool(differs)
-    differs = compare_lcov(room) + compare_lcov(room, options=["-march=rv32imac"])
-    print("lcov: " + ("as expected" if not differs else f"differs: {differs}"))
-    failed |= bool(differs)
-    differs = compare_names(room) + compare_nested(room)
-    print("names: " + ("as expected" if not differs else f"differs: {differs}"))
-    return int(failed or bool(differs))
-
-
-def main(words):
-    if words not in ([], ["--self-test"]):
-        sys.exit(__doc__)
-    subprocess.run([ROOT / ".ci/built", "program", "rrs"], check=True)
-    is_wrong = outputs.main([RRS, *words])
-    tools = subprocess.run([ROOT / ".ci/tools", *TOOLS], capture_output=True, text=True, check=False)
-    if tools.returncode:
-        print(f"the reports were not compared: not installed: {tools.stdout.strip()}")
-        return is_wrong or 2
-    with tempfile.TemporaryDirectory() as folder:
-        if words:
-            return self_test(Path(folder)) or is_wrong
-        return compare_all(Path(folder), LINES, RUN, OWN) or is_wrong
-
-
-if __name__ == "__main__":
-    sys.exit(main(sys.argv[1:]))
+    return differing("line", report.read_text().splitlines()[-1:],
+                     [f"{3:8} {100_003:8} {3:12} {3:12}  (all)"])
