@@ -10,6 +10,7 @@ sources. RRS=PATH in the environment tries another, as built/rust/target/release
 
 import fcntl
 import os
+import random
 import shutil
 from collections import defaultdict
 
@@ -23,6 +24,7 @@ TAKEN = defaultdict(lambda: [0.0, float("inf")])
 
 def pytest_addoption(parser):
     parser.addoption("--skipped", metavar="FILE", help="write which tests were skipped, and why")
+    parser.addoption("--seed", type=int, help="in the place of a fresh one, which is printed")
     parser.addoption("--hours", action="store_true", help="run what takes an hour too")
 
 
@@ -113,3 +115,14 @@ def once(request, tmp_path_factory):
         return room
 
     return make
+
+
+@pytest.fixture
+def seed(request, once):
+    """A number for what is random, which is the same for all tests of a run."""
+    number = request.config.getoption("seed")
+    if number is None:
+        folder = once("seed", lambda room: (room / "seed").write_text(str(random.randrange(32768))))
+        number = int((folder / "seed").read_text())
+    print(f"the seed is {number}: --seed {number}")
+    return number

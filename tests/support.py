@@ -100,6 +100,17 @@ def same(seen, wanted, what="the text"):
         raise AssertionError(f"{what} differs: {first_difference(seen, wanted)}")
 
 
+def same_bytes(seen, wanted, what="the bytes"):
+    """Fails where the bytes of two texts are not the same, and shows those that differ first."""
+    __tracebackhide__ = True
+    if seen != wanted:
+        place = next((at for at, (one, other) in enumerate(zip(seen, wanted)) if one != other),
+                     min(len(seen), len(wanted)))
+        near = [text[place:place + 8].encode("latin-1").hex(" ") for text in (seen, wanted)]
+        raise AssertionError(f"{what}: {len(seen)} bytes, and not {len(wanted)}; at {place} "
+                             f"{near[0]}, and not {near[1]}")
+
+
 def instead(file, tool, after=":", before=":"):
     """Makes a program that does what another does. Lines of the shell stand before and after it,
     which may print more, or set `status`."""

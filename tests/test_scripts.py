@@ -22,7 +22,6 @@ SCRIPTS = (
     "bindings/check.sh", "bindings/check.sh --self-test",
     "bindings/sv/check", "bindings/sv/check --self-test",
     "examples/exec/check", "examples/exec/check --self-test",
-    "examples/assembly/check", "examples/assembly/check --self-test",
     "examples/linux/check", "examples/linux/check --self-test",
     "definitions/check", "definitions/check --self-test",
     "docs/development/speed/measure.py --check", "docs/development/speed/measure.py --self-test",

@@ -2,7 +2,7 @@
 
 import pytest
 
-from support import IN_CI, instead, missing, run, same, text_of
+from support import IN_CI, instead, missing, run, same, same_bytes, text_of
 
 pytestmark = pytest.mark.planted
 
@@ -23,6 +23,13 @@ def test_two_texts(tmp_path, other):
 
 def test_one_text():
     same("one\ntwo\n", "one\ntwo\n")
+    same_bytes("\0\xff", "\0\xff")
+
+
+@pytest.mark.parametrize("other, place", [("", 0), ("\0", 1), ("\0\xfe", 1), ("\0\xff\0", 2)])
+def test_other_bytes(other, place):
+    with pytest.raises(AssertionError, match=f"{len(other)} bytes, and not 2; at {place} "):
+        same_bytes(other, "\0\xff")
 
 
 def test_where_texts_differ():

@@ -202,8 +202,9 @@ def tests(sources, crate=r"\w+"):
 
 
 def compared(sources, what):
-    """How many things of a kind examples/assembly/check compares, which it asks for."""
-    found = re.search(rf"^compare_{what} (\d+) ", sources.text("examples/assembly/check"), re.M)
+    """How many things of a kind tests/test_gnu_as.py compares, which it asks for."""
+    found = re.search(rf"^    assert len\({what.upper()}\) == (\d+)$",
+                      sources.text("tests/test_gnu_as.py"), re.M)
     return int(found[1]) if found else None
 
 
