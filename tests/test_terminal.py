@@ -1,25 +1,21 @@
-#!/usr/bin/env python3
 """Looks at what a long run of rrs shows on a terminal: how far it is, in a line each second.
 
-usage: terminal PROGRAM | --self-test
-
-PROGRAM is trials/living.c, built by cc. It is run by rrs exec, trace and cover with pseudo-terminals
-in the place of some of its streams. Where standard error is one, lines are shown, and each is erased
-before the program writes to a terminal and before the end: without them what the program writes is as
-it was. Where it is none there are no lines. The status is 0 where all is so, and else 1. --self-test
-has commands that do something wrong in the place of rrs.
-"""
+The program is examples/exec/trials/living.c, built by cc. It is run by rrs exec, trace and cover
+with pseudo-terminals in the place of some of its streams. Where standard error is one, lines are
+shown, and each is erased before the program writes to a terminal and before the end: without them
+what the program writes is as it was. Where it is none there are no lines."""
 
 import os
 import pty
 import re
 import subprocess
-import sys
 import tempfile
 import tty
-from pathlib import Path
 
-RRS = Path(__file__).resolve().parent.parent.parent / "crates/rrs/out/rrs"
+import pytest
+
+from support import EXAMPLES, run
+
 # a line is written with the cursor kept before it, and erased up to the end of its row
 LINE = rb"\x1b7\x1b\[\?7l\[\d+\.\d million steps, \d+\.\d million a second\]\x1b\[K\x1b\[\?7h\x1b8"
 SHOWN = re.compile(rb"(?:" + LINE + rb")+\x1b\[K")
@@ -39,9 +35,9 @@ def read_all(end):
         parts.append(part)
 
 
-def run(command, terminals):
-    """Runs a command with a pseudo-terminal for these streams: its status, what the terminal got, and
-    what the other outputs did."""
+def run_at(command, terminals):
+    """Runs a command with a pseudo-terminal for these streams: its status, what the terminal got,
+    and what the other outputs did."""
     end, place = pty.openpty()
     tty.setraw(place)
     with tempfile.TemporaryFile() as output, tempfile.TemporaryFile() as errors:
@@ -60,11 +56,12 @@ def run(command, terminals):
 
 def wrong_in(command, terminals, shows=True):
     """What is wrong in a run: lines are shown, and the program's own bytes are as they were."""
-    status, seen, other = run(command, terminals)
+    status, seen, other = run_at(command, terminals)
     lines = len(re.findall(LINE, seen))
     rest = SHOWN.sub(b"", seen)
     wanted = b"".join(text for stream, text in ((1, OUTPUT), (2, ERRORS)) if stream in terminals)
-    others = b"".join(text for stream, text in ((1, OUTPUT), (2, ERRORS)) if stream not in terminals)
+    others = b"".join(text for stream, text in ((1, OUTPUT), (2, ERRORS))
+                      if stream not in terminals)
     wrong = []
     if status != STATUS:
         wrong.append(f"status {status}")
@@ -86,14 +83,29 @@ RUNS = (
 )
 
 
-def check(program):
-    """Says of each run whether it is as expected."""
-    failed = 0
-    for words, terminals, shows in RUNS:
-        wrong = wrong_in([RRS, *words, program], terminals, shows)
-        failed |= bool(wrong)
-        print(f"rrs {words[0]}, a terminal for {terminals}: " + (", ".join(wrong) or "as expected"))
-    return failed
+@pytest.fixture(scope="module")
+def living(once):
+    """The program."""
+    def build(room):
+        done = run(EXAMPLES / "exec/cc", "-O2", EXAMPLES / "exec/trials/living.c", "-o",
+                   room / "living")
+        assert done.status == 0, done.errors
+    return once("living", build) / "living"
+
+
+@pytest.mark.tools(
+    "riscv64-unknown-elf-gcc=gcc-riscv64-unknown-elf",
+    "/usr/lib/picolibc/riscv64-unknown-elf/picolibc.specs=picolibc-riscv64-unknown-elf")
+@pytest.mark.parametrize("words, terminals, shows", RUNS,
+                         ids=[f"{words[0]} {terminals}" for words, terminals, _ in RUNS])
+def test_terminal(rrs, living, words, terminals, shows):
+    assert wrong_in([rrs, *words, living], terminals, shows) == []
+
+
+def test_each_command_has_both():
+    """Each command is run where lines are shown, and where none are."""
+    made = {(words[0], shows) for words, _, shows in RUNS}
+    assert made == {(name, shows) for name in ("exec", "trace", "cover") for shows in (True, False)}
 
 
 # what a shell does in the place of rrs, with terminals for standard output and standard error, and
@@ -102,7 +114,8 @@ SHOW = r"printf '\0337\033[?7l[1.0 million steps, 1.0 million a second]\033[K\03
 ERASE = r"printf '\033[K' >&2"
 TRIALS = (
     (f"printf 'begin, '; {SHOW}; {SHOW}; {ERASE}; echo end; echo errors >&2; exit 3", True),
-    (f"printf 'begin, '; {SHOW}; {ERASE}; echo end; {SHOW}; {ERASE}; echo errors >&2; exit 3", True),
+    (f"printf 'begin, '; {SHOW}; {ERASE}; echo end; {SHOW}; {ERASE}; echo errors >&2; exit 3",
+     True),
     ("printf 'begin, '; echo end; echo errors >&2; exit 3", False),
     (f"printf 'begin, '; {SHOW}; {ERASE}; echo end; echo errors >&2; exit 2", False),
     (f"printf 'begin, '; {SHOW}; echo end; echo errors >&2; exit 3", False),
@@ -112,31 +125,14 @@ TRIALS = (
 )
 
 
-def self_test():
-    """Each wrong command must be seen, and the right ones must pass."""
-    failed = 0
-    for command, is_right in TRIALS:
-        if (wrong_in(["sh", "-c", command], (1, 2)) == []) != is_right:
-            print(f"right {not is_right}: {command}")
-            failed = 1
-    for command, is_right in ((TRIALS[0][0], False), (TRIALS[2][0], True)):
-        if (wrong_in(["sh", "-c", command], (1,), False) == []) != is_right:
-            print(f"right {not is_right} without a terminal: {command}")
-            failed = 1
-    made = {(words[0], shows) for words, _, shows in RUNS}
-    for name in ("exec", "trace", "cover"):
-        if not {(name, True), (name, False)} <= made:
-            print(f"rrs {name} is not run with lines and without")
-            failed = 1
-    print(f"self-test: status {failed}")
-    return failed
+@pytest.mark.planted
+@pytest.mark.parametrize("command, is_right", TRIALS, ids=range(len(TRIALS)))
+def test_another_command(command, is_right):
+    assert (wrong_in(["sh", "-c", command], (1, 2)) == []) == is_right
 
 
-def main(words):
-    if len(words) != 1:
-        sys.exit(__doc__)
-    return self_test() if words == ["--self-test"] else check(words[0])
-
-
-if __name__ == "__main__":
-    sys.exit(main(sys.argv[1:]))
+@pytest.mark.planted
+@pytest.mark.parametrize("command, is_right", [(TRIALS[0][0], False), (TRIALS[2][0], True)],
+                         ids=["lines", "no lines"])
+def test_without_a_terminal(command, is_right):
+    assert (wrong_in(["sh", "-c", command], (1,), False) == []) == is_right
