@@ -10,7 +10,7 @@ from support import EXAMPLES, run, same, same_bytes, text_of
 HERE = EXAMPLES / "assembly"
 LINES = HERE / "lines.py"
 GNU = "riscv64-unknown-elf-"
-MARCH = ["-march=rv32ima_zicsr_zifencei_zba_zbb_zbs", "-mabi=ilp32", "-mno-relax"]
+MARCH = ["-march=rv32ima_zicsr_zifencei_zba_zbb_zbc_zbkb_zbs", "-mabi=ilp32", "-mno-relax"]
 TOOLS = (f"{GNU}as=binutils-riscv64-unknown-elf", f"{GNU}gcc=gcc-riscv64-unknown-elf",
          "qemu-riscv32=qemu-user")
 
@@ -99,7 +99,7 @@ class Assembler:
 
     def compare_changed(self, text, least):
         """Compares lines that may have mistakes: what rrs as takes, GNU as takes too, but for what
-        docs/ASSEMBLY.md names. At least so many lines are left."""
+        docs/GNU-AS.md names. At least so many lines are left."""
         __tracebackhide__ = True
         text = self.settled(text)
         for _ in range(20):
@@ -109,7 +109,7 @@ class Assembler:
                 break
             self.put("gnu.errors", "".join(errors))
             done = run(sys.executable, LINES, "--refused", "changed.s", "gnu.errors", cwd=self.room)
-            assert done.status == 0, f"GNU as refuses what ASSEMBLY.md does not name: {done.output}"
+            assert done.status == 0, f"GNU as refuses what GNU-AS.md does not name: {done.output}"
             text = self.settled(without(text, [line.split(":")[1] for line in errors]))
         count = text.count("\n")
         assert count >= least, f"{count} lines are left, and there must be {least}"

@@ -26,7 +26,7 @@ STORED = ("hello", "count", "fault")
 TRIALS = ("unended", "order", "full", "aborts", "asserts", "streams", "clocks", "newlib", "numbers",
           "values", "heap", "lines", "unserved")
 PROGRAMS = [path.stem for path in sorted(HERE.glob("programs/*.c"))]
-ARCHITECTURE = "-march=rv32imac_zba_zbb_zbs"
+ARCHITECTURE = "-march=rv32imac_zba_zbb_zbc_zbkb_zbs"
 
 
 def source_of(name):
@@ -51,7 +51,13 @@ PROCESSES = {
     "atomics of A": ("-march=rv32ima",), "layers": ("-march=rv32ima",), "bits": (ARCHITECTURE,),
 }
 COMPRESSED = (*PROGRAMS, "hello", "layers", "misaligned")
-MARCHES = ("rv32im_zba_zbb_zbs", "rv32imc_zba_zbb_zbs", "rv32imac_zba_zbb_zbs")
+MARCHES = tuple(f"{base}_zba_zbb_zbc_zbkb_zbs" for base in ("rv32im", "rv32imc", "rv32imac"))
+
+
+@pytest.fixture(autouse=True)
+def qemu_has_zbkb(monkeypatch):
+    """QEMU leaves it out unless it is asked for."""
+    monkeypatch.setenv("QEMU_CPU", "rv32,zbkb=true")
 
 
 @pytest.fixture(scope="module")
@@ -254,6 +260,31 @@ def test_misaligned_accesses_as_faults(rrs, process):
 def test_bits_on_a_hart_without(rrs, process):
     tells(rrs, "bare", "^rrs exec: IllegalInstruction pc=0x[0-9a-f]* word=0x[0-9a-f]*$",
           "--march=rv32imac", process("bits"))
+
+
+def test_conditional_zeros(rrs, tmp_path):
+    """QEMU 7.2 has no Zicond. The program adds 7 twice and four times, and 0 once and eight
+    times."""
+    (tmp_path / "zicond.s").write_text("""_start:
+    li a1, 7
+    li a2, 5
+    czero.eqz a0, a1, zero
+    czero.nez a3, a1, zero
+    czero.eqz a4, a1, a2
+    czero.nez a5, a1, a2
+    slli a3, a3, 1
+    slli a4, a4, 2
+    slli a5, a5, 3
+    add a0, a0, a3
+    add a0, a0, a4
+    add a0, a0, a5
+    li a7, 93
+    ecall
+""")
+    assert run(rrs, "as", "-o", tmp_path / "zicond", tmp_path / "zicond.s").status == 0
+    assert run(rrs, "exec", tmp_path / "zicond").status == 42
+    tells(rrs, "bare", "^rrs exec: IllegalInstruction pc=0x[0-9a-f]* word=0x0e05d533$",
+          "--march=rv32imac_zba_zbb_zbc_zbkb_zbs", tmp_path / "zicond")
 
 
 def test_a_line_that_cannot_be_written(rrs, process):

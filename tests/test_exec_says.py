@@ -16,7 +16,8 @@ usage: rrs exec [--limit STEPS] [--memory BYTES] [--files FOLDER | --files-read-
 """
 NUMBER = "number below 2^64, of decimal digits, or of 0x and hexadecimal ones\n"
 MARCH = ("architecture that it takes: rv32im, rv32ima, rv32imc and rv32imac are four, and each may "
-         "have _zicsr, _zifencei, _zba, _zbb and _zbs behind it, each once\n")
+         "have _zicsr, _zifencei, _zba, _zbb, _zbs, _zbc, _zbkb and _zicond behind it, each "
+         "once\n")
 
 
 def limit_at(pc, steps):
@@ -51,9 +52,9 @@ SAYS = (
      "--raw ROOM/long.bin --limit 10"),
     # what an architecture may be
     ("", 3, "--march rv32im --raw RAW"), ("", 3, "--march=rv32imac_zifencei_zicsr --raw RAW"),
-    ("", 3, "--march=rv32imac_zba_zbb_zbs_zicsr_zifencei --raw RAW"),
+    ("", 3, "--march=rv32imac_zba_zbb_zbc_zbkb_zbs_zicond_zicsr_zifencei --raw RAW"),
     *((f"rrs exec: --march: {name} is no {MARCH}", 125, f"--march={name} --raw RAW")
-      for name in ("rv32im_zba_zba", "rv32im_zbc", "rv32i", "rv32im_", "")),
+      for name in ("rv32im_zba_zba", "rv32im_zbkc", "rv32i", "rv32im_", "")),
     # amoadd.w x0, x0, (x0) and fence.i, and then exit(7), by harts that have them and that don't
     ("rrs exec: at pc 0x00000000, after 0 steps\n"
      "rrs exec: IllegalInstruction pc=0x00000000 word=0x0000202f\n", 132,

@@ -21,9 +21,9 @@ COMPILED = [(path, level) for path in sorted(HERE.glob("compiled/*.c")) for leve
 PROGRAMS = sorted(HERE.glob("programs/*.s"))
 OTHERS = sorted(HERE.glob("macros/*.s")) + sorted(HERE.glob("files/*.s"))
 SMALL = ("three_words", "sum_loop", "gcd", "copy_words", "put_string", "hello")
-# instructions of Zba, Zbb and Zbs, by the beginnings of their names
+# instructions of Zba to Zbkb, by the beginnings of their names
 BITS = (r"sh[123]add|andn|orn|xnor|clz|ctz|cpop|max|min|sext|zext\.h|ro[lr]|orc|rev8|bclr|bext|"
-        "binv|bset")
+        "binv|bset|clmul|pack|brev8|zip|unzip")
 FRESH = "fresh"
 
 
@@ -39,8 +39,8 @@ def seed_of(seed):
 
 
 @pytest.mark.parametrize("words, total", [
-    ("1 10000", "1253572299 219306"), ("11 20000 changed", "2616361860 392066"),
-    ("12 300 each", "2099242780 218772"), ("1 12000 layers", "4170579774 295130")])
+    ("1 10000", "3764250277 219590"), ("11 20000 changed", "3353680308 392339"),
+    ("12 300 each", "611086996 212020"), ("1 12000 layers", "3580206434 295612")])
 def test_lines_of_a_seed(words, total):
     assert run("cksum", input=lines_of(*words.split())).output.strip() == total
 
@@ -49,7 +49,7 @@ def test_names_of_the_lines():
     """How many instructions and directives they have by their names."""
     text = re.sub(r"(?m)^\s*((near[0-9]+|[12]|first|last):\s*)*(nop; )?\s*", "",
                   lines_of(1, 10000))
-    assert len({line.split()[0] for line in text.splitlines() if line.strip()}) == 176
+    assert len({line.split()[0] for line in text.splitlines() if line.strip()}) == 184
     names = re.findall(r"(?m)^\.option rvc; (c\.[a-z0-9]*)", lines_of("--short", 1, 12000))
     assert len(set(names)) == 27
 
@@ -186,8 +186,8 @@ def test_words_of_extension_a(assembler):
 
 
 def test_words_of_bits(assembler):
-    """Each funct7, funct3 and rs2 of the two opcodes that Zba, Zbb and Zbs have, and more registers
-    of those that are theirs. objdump has shift amounts of 32 and more."""
+    """Each funct7, funct3 and rs2 of the two opcodes that Zba to Zbkb have, and more registers of
+    those that are theirs. objdump has shift amounts of 32 and more, and not yet Zicond."""
     words = [funct7 << 25 | rs2 << 20 | rs1 << 15 | funct3 << 12 | rd << 7 | opcode
              for opcode in (0x13, 0x33) for rs2 in range(32)
              for funct3 in ((1, 5) if opcode == 0x13 else range(8))
@@ -196,8 +196,25 @@ def test_words_of_bits(assembler):
     own, wanted = texts_of_words(assembler, words)
     own = [re.sub(r"^((?:s[lr][la]i|rori|b[a-z]+i) .*, )(\d+)$",
                   lambda found: f"{found[1]}{int(found[2]):#x}", text) for text in own]
+    own = ["none" if text.startswith("czero.") else text for text in own]
     same_texts(own, ["none" if re.search(r" 0x[23].$", text) else text for text in wanted])
-    assert (len(own), sum(bool(re.match(BITS, text)) for text in own)) == (48640, 2720)
+    assert (len(own), sum(bool(re.match(BITS, text)) for text in own)) == (48640, 3368)
+
+
+@pytest.mark.tools("llvm-mc-19=llvm-19")
+def test_words_of_zicond(assembler):
+    """Each of them, as LLVM writes it; and the bytes of these lines are the words again."""
+    words = [0x0e005033 | rs2 << 20 | rs1 << 15 | nez << 13 | rd << 7
+             for nez in (0, 1) for rs2 in range(32) for rs1 in range(32) for rd in range(32)]
+    own, _ = texts_of_words(assembler, words)
+    llvm = ["llvm-mc-19", "--triple=riscv32", "--mattr=+zicond", "--disassemble",
+            "-M", "no-aliases", "-M", "numeric"]
+    given = "".join(" ".join(f"{byte:#x}" for byte in struct.pack("<I", word)) + "\n"
+                    for word in words)
+    wanted = succeeds(run(*llvm, input=given)).replace("\t", " ").splitlines()
+    same_texts(own, [text.strip() for text in wanted if "czero" in text])
+    assembler.put("zicond.s", "\n".join([*own, ""]))
+    assert assembler.own("zicond.s").output.encode("latin-1") == struct.pack("<65536I", *words)
 
 
 # ---- lines that may have mistakes
@@ -351,12 +368,12 @@ def test_fewer_lines(assembler):
 
 @pytest.mark.planted
 def test_what_is_not_named(assembler):
-    """A GNU as that refuses a line of which ASSEMBLY.md says nothing."""
+    """A GNU as that refuses a line of which GNU-AS.md says nothing."""
     file = assembler.put("as", '#!/bin/sh\n[ -e once ] || { echo "changed.s:3: Error: none" >&2; '
                          f'touch once; exit 1; }}\nexec {shutil.which(GNU + "as")} "$@"\n')
     file.chmod(0o755)
     assembler.gnu_as = file
-    with pytest.raises(AssertionError, match="GNU as refuses what ASSEMBLY.md does not name"):
+    with pytest.raises(AssertionError, match="GNU as refuses what GNU-AS.md does not name"):
         of_changed(assembler)
 
 

@@ -1,6 +1,7 @@
 #!/usr/bin/env python3
 """Questions whose answers come from tables and rules that are written here anew: names, causes,
-comparisons of records, and executables in the ELF format. `make` stores them behind the others. README.md has the forms.
+comparisons of records, and executables in the ELF format. `make` stores them behind the others.
+README.md has the forms.
 
 usage: checks.py questions | checks.py answers
 """
@@ -75,8 +76,8 @@ def layers():
                 word = fixed | order << 25 | rs2 << 20 | rs1 << 15 | rd << 7
                 answer = f"{row} rd={rd} rs1={rs1} rs2={rs2} shamt=0 imm={order}"
             yield f"fields {hexed(word)}", answer
-    # a wfi with rd, an lr.w with rs2, amoadd.d, funct5 5, funct3 4 and 0 of SYSTEM, a packh of funct3 6,
-    # a rori and a bseti by 32, an orc.b and a zip of another number, a czero of funct3 6
+    # a wfi with rd, an lr.w with rs2, amoadd.d, funct5 5, funct3 4 and 0 of SYSTEM, a packh of
+    # funct3 6, a rori and a bseti by 32, an orc.b and a zip of another number, a czero of funct3 6
     for word in (0x105000F3, 0x1010202F, 0x0000302F, 0x2800202F, 0x00004073, 0x30200173, 0x08006033,
                  0x62005013, 0x2A001013, 0x28605013, 0x08E01013, 0x0E006033):
         yield f"fields {hexed(word)}", "none"

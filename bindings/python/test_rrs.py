@@ -313,7 +313,8 @@ class Faces(Counted):
     def test_a_hart_has_bit_manipulation_by_its_profile(self):
         # sh2add x3, x1, x2; max x3, x1, x2; bseti x3, x1, 31; clmul x3, x1, x2; packh x3, x1, x2;
         # czero.nez x3, x1, x2
-        machine = Machine([0x2020C1B3, 0x0A20E1B3, 0x29F09193, 0x0A2091B3, 0x0820F1B3, 0x0E20F1B3], 0)
+        machine = Machine(
+            [0x2020C1B3, 0x0A20E1B3, 0x29F09193, 0x0A2091B3, 0x0820F1B3, 0x0E20F1B3], 0)
         machine.registers[1], machine.registers[2] = 0x1030, 3
         for pc, layer, name, value in ((0, LAYER.ZBA, "sh2add x3, x1, x2", 0x40C3),
                                        (4, LAYER.ZBB, "max x3, x1, x2", 0x1030),
@@ -323,7 +324,8 @@ class Faces(Counted):
                                        (20, LAYER.ZICOND, "czero.nez x3, x1, x2", 0)):
             word = machine.memory[pc // 4]
             self.assertEqual(rrs.disassemble(word), name)
-            self.assertEqual(machine.step_hart(2047 - layer), (FaultKind.ILLEGAL_INSTRUCTION, pc, word))
+            self.assertEqual(machine.step_hart(2047 - layer),
+                             (FaultKind.ILLEGAL_INSTRUCTION, pc, word))
             self.assertIsNone(machine.step_hart(layer))
             self.assertEqual((machine.pc, machine.registers[3]), (pc + 4, value))
         self.assertEqual(rrs.decode(0x29F09193), (rrs.Row.BSETI, 3, 1, 0, 31, 0))

@@ -1,6 +1,6 @@
 """The definitions of a hart with extension A, fence.i, misaligned accesses, compressed code and Zba
-to Zbkb beside qemu-riscv32, whose version 7.2 has no Zicond: random steps, each with its registers, pc and accesses, and the
-memory that they leave."""
+to Zbkb beside qemu-riscv32, whose version 7.2 has no Zicond: random steps, each with its registers,
+pc and accesses, and the memory that they leave."""
 
 import random
 import re

@@ -148,8 +148,8 @@ def qemu_log(room, plugin, entry, segments):
     path, log = Path(room, "program"), Path(room, "log")
     path.write_bytes(elf(entry, segments))
     path.chmod(0o755)
-    done = subprocess.run(["qemu-riscv32", "-cpu", "rv32,zbkb=true", "-singlestep", "-plugin", plugin, "-d",
-                           "cpu,plugin,nochain", "-D", log, path],
+    done = subprocess.run(["qemu-riscv32", "-cpu", "rv32,zbkb=true", "-singlestep", "-plugin", plugin,
+                           "-d", "cpu,plugin,nochain", "-D", log, path],
                           check=False, stdout=subprocess.PIPE)
     if done.returncode:
         raise RuntimeError(f"qemu-riscv32: status {done.returncode}")

@@ -31,8 +31,8 @@ CPU = "rv32,f=off,d=off,c={0},zba={0},zbb={0},zbs={0},zbc={0},zbkb={0}"
 LIMIT = 10000
 # The instructions of Zba to Zbkb: opcode, funct7, funct3, and rs2 or None where it is any.
 BITS = (*((0x33, funct7, funct3, None) for funct7, row in (
-            (0x10, (2, 4, 6)), (0x20, (4, 6, 7)), (5, (1, 2, 3, 4, 5, 6, 7)), (4, (4, 7)), (0x30, (1, 5)), (0x24, (1, 5)),
-            (0x34, (1,)), (0x14, (1,))) for funct3 in row),
+            (0x10, (2, 4, 6)), (0x20, (4, 6, 7)), (5, (1, 2, 3, 4, 5, 6, 7)), (4, (4, 7)),
+            (0x30, (1, 5)), (0x24, (1, 5)), (0x34, (1,)), (0x14, (1,))) for funct3 in row),
         (0x13, 0x30, 5, None), *((0x13, funct7, 1, None) for funct7 in (0x24, 0x34, 0x14)),
         (0x13, 0x24, 5, None), (0x33, 4, 4, 0), (0x13, 0x14, 5, 7), (0x13, 0x34, 5, 24),
         (0x13, 0x34, 5, 7), (0x13, 4, 1, 15), (0x13, 4, 5, 15),

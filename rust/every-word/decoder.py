@@ -2,8 +2,9 @@
 """Writes a decoder of RV32IMC and Zba to Zbkb in C that is QEMU's: its tables, insn32.decode and
 insn16.decode, through its own generator, decodetree.py, which makes of each a tree of tests that call
 trans_NAME with the fields of the word. For a half-word that is the row that it stands for. What is
-written here is these functions: for a name of RV32IM or Zba to Zbkb one that stores its row and its fields, and for each
-other name one that refuses the word, as QEMU does where the hart has not that extension.
+written here is these functions: for a name of RV32IM or Zba to Zbkb one that stores its row and its
+fields, and for each other name one that refuses the word, as QEMU does where the hart has not that
+extension.
 
 usage: decoder.py QEMU INTO
 

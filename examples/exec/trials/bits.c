@@ -1,4 +1,4 @@
-/* The instructions of Zba, Zbb and Zbs: of each a sum of what it answers for pairs of values, and of
+/* The instructions of Zba to Zbkb: of each a sum of what it answers for pairs of values, and of
  * what gcc makes of C by them. */
 #include <stdint.h>
 #include <stdio.h>
@@ -36,6 +36,8 @@ int main(void) {
     OF_ONE("orc.b"); OF_ONE("rev8");
     OF_TWO("bclr"); BY_AMOUNT("bclri"); OF_TWO("bext"); BY_AMOUNT("bexti");
     OF_TWO("binv"); BY_AMOUNT("binvi"); OF_TWO("bset"); BY_AMOUNT("bseti");
+    OF_TWO("clmul"); OF_TWO("clmulh"); OF_TWO("clmulr");
+    OF_TWO("pack"); OF_TWO("packh"); OF_ONE("brev8"); OF_ONE("zip"); OF_ONE("unzip");
     SUM("turn", a << (b & 31) | a >> (-b & 31));
     SUM("bits", __builtin_popcount(a) + (a ? __builtin_clz(a) * __builtin_ctz(a) : 99) + b);
     SUM("signed", (int32_t)(int8_t)a + (int32_t)(int16_t)b + (uint16_t)a);
