@@ -52,6 +52,7 @@ def pytest_runtest_makereport(item):
     if IN_CI and report.skipped:
         report.outcome = "failed"
         report.longrepr = f"{item.nodeid} is skipped where CI is true: {report.longrepr[2]}"
+    item.has_failed = report.failed or getattr(item, "has_failed", False)
 
 
 def pytest_runtest_logreport(report):
@@ -94,6 +95,23 @@ def rrs():
 def is_plain(rrs):
     """Whether the program is that of plain Rust."""
     return is_plain_rust()
+
+
+@pytest.fixture
+def tmp_path(request, tmp_path):
+    """The room of a test, which is removed where the test has passed."""
+    yield tmp_path
+    if not request.node.has_failed:
+        shutil.rmtree(tmp_path, ignore_errors=True)
+
+
+@pytest.hookimpl(trylast=True)
+def pytest_sessionfinish(session):
+    """Removes what was built once, behind the last process of a run."""
+    if not hasattr(session.config, "workerinput"):
+        base = session.config._tmp_path_factory.getbasetemp()
+        for room in base.glob("once-*"):
+            shutil.rmtree(room, ignore_errors=True)
 
 
 @pytest.fixture(scope="session")

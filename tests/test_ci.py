@@ -164,7 +164,7 @@ def ran(repository, ends="", skips="", **more):
 def test_a_run_in_which_all_passes(repository):
     called, status, last = ran(repository)
     assert called[0].startswith("ci ") and called[1:] == ["pytest", "pytest"]
-    assert (status, last) == (0, "== pytest -m alone: status 0, N s")
+    assert (status, last) == (0, "== pytest -v -m alone: status 0, N s")
 
 
 @pytest.mark.parametrize("ends, wanted", [("not alone 1\n", 1), ("alone 1\n", 1), ("alone 5\n", 5),
