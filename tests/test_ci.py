@@ -35,7 +35,7 @@ echo "apt-get $*" >>"$ROOM/called"
 PYTEST = r"""#!/bin/sh
 echo "pytest" >>"$ROOM/called"
 for word; do
-    [ "$last" != --skipped ] || cat "$ROOM/skips" >>"$word"
+    case $word in --skipped=*) cat "$ROOM/skips" >>"${word#*=}" ;; esac
     last=$word
 done
 exit "$(sed -n "s/^$last //p" "$ROOM/ends" | grep . || echo 0)"
@@ -216,11 +216,29 @@ def test_what_is_skipped(repository, in_ci, status):
     shutil.copy(ROOT / "pytest.ini", repository.room)
     (room / "test_of_tools.py").write_text(OF_TOOLS)
     (repository.room / "bin/pytest").unlink()
-    _, ended, said = repository.calls("pytest", "--skipped", skipped, CI=in_ci)
+    _, ended, said = repository.calls("pytest", f"--skipped={skipped}", CI=in_ci)
     assert ended == status, said
     wanted = "not installed: no-such-package"
     assert wanted in said if in_ci else wanted in skipped.read_text()
     assert ("1 passed, 1 error" if in_ci else "1 passed, 1 skipped") in said
+
+
+@pytest.mark.tools("/usr/lib/python3/dist-packages/xdist=python3-pytest-xdist")
+def test_the_words_of_a_run(repository):
+    """The pytest that is installed takes them, and runs each test once."""
+    room = repository.room / "tests"
+    room.mkdir()
+    for name in ("conftest.py", "support.py"):
+        shutil.copy(ROOT / "tests" / name, room)
+    shutil.copy(ROOT / "pytest.ini", repository.room)
+    (room / "test_of_tools.py").write_text(f"{OF_TOOLS}\n@pytest.mark.alone\n"
+                                           "def test_alone(): pass\n")
+    (repository.room / "bin/pytest").unlink()
+    _, status, said = repository.calls(".ci/run", XDIST="/bin/sh")
+    assert re.findall(r"\d (?:passed|skipped)", said) == ["1 passed", "1 skipped", "1 passed"], said
+    assert said.endswith("\nnot all was compared: tests/test_of_tools.py::test_tool: "
+                         "not installed: no-such-package\n")
+    assert status == 2
 
 
 def is_shell(file):
