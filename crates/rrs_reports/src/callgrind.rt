@@ -111,7 +111,7 @@ fn write_all_costs<W: Write>(out: &mut Pieces<'_, W>, profile: &Profile<'_, '_>)
 /// of; which source they are of is not known, for which the format has `???`.
 ///
 /// Its begin names the program (`begins`). What follows is tested alone: `callgrind_annotate` reads
-/// it, says nothing of it, and finds these steps (`examples/reports/check`).
+/// it, says nothing of it, and finds these steps (`tests/test_reports.py`).
 ///
 /// # Errors
 ///

@@ -131,7 +131,7 @@ fn write_title<W: Write>(out: &mut Pieces<'_, W>, code: &Code<'_>, part: &CodePa
 /// half-word whose low bits are not 11 is an instruction, which has 4 digits.
 ///
 /// The text of each instruction is proved (`Disassembled`, `short_text`). That the lines are those
-/// of the file's code is tested alone: `examples/reports/check` compares them with those of
+/// of the file's code is tested alone: `tests/test_reports.py` compares them with those of
 /// `objdump -d`.
 ///
 /// # Errors

@@ -9,7 +9,7 @@ use rrs_words::{
 
 /// Half-words at address 0x10000, each with the word that GNU `as` makes of what it stands for, and
 /// its text. Of each form there is one, of each immediate the least and the greatest, and hints.
-/// `examples/reports/check` compares all half-words with `objdump`.
+/// `tests/test_reports.py` compares all half-words with `objdump`.
 static TEXTS: [(u16, u32, &str); 51] = [
     (0x0040, 0x0041_0413, "c.addi4spn x8, x2, 4"),
     (0x1ffc, 0x3fc1_0793, "c.addi4spn x15, x2, 1020"),

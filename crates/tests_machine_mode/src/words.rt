@@ -9,7 +9,7 @@ use rrs_words::{decode_system, encode_system, system_text};
 
 /// Words, and their texts as `objdump` writes them with `-M numeric,no-aliases`: each CSR of the
 /// tables, the counters of the performance monitor at both ends, numbers that have no name, and
-/// each of the nine instructions. `examples/board/check` compares them with `objdump`.
+/// each of the nine instructions. `tests/test_board.py` compares them with `objdump`.
 static TEXTS: [(u32, &str); 56] = [
     (0x3001_10f3, "csrrw x1, mstatus, x2"),
     (0x3014_a373, "csrrs x6, misa, x9"),
