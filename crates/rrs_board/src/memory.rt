@@ -12,10 +12,10 @@ use std::marker::Model;
 /// Where RAM begins.
 pub const RAM_START: u32 = 0x8000_0000;
 
-/// How many decoded words of RAM are kept. Of words that lie a multiple of 32 KiB apart one is kept
+/// How many decoded words of RAM are kept. Of words that lie a multiple of 16 KiB apart one is kept
 /// at a time, so a loop of up to so many words runs at full speed; of a hart that fetches half-words,
-/// a loop of up to 16 KiB. A board is a value, and so it lies on the stack while it is made.
-pub const DECODED_WORDS: usize = 8192;
+/// a loop of up to 8 KiB. A board is a value, and so it lies on the stack while it is made.
+pub const DECODED_WORDS: usize = 4096;
 
 /// Words at the addresses of RAM, which are 0 until they are written, and take no memory of the
 /// host until then. In contracts it is the memory of all these words.
