@@ -356,7 +356,7 @@ def rewriting(rrs, first, count, signals):
 
 
 def test_programs_that_store_into_their_own_code(rrs):
-    rewriting(rrs, 107, 120, 7)
+    rewriting(rrs, 107, 120, 9)
 
 
 # ---- compressed code
