@@ -21,7 +21,6 @@ SCRIPTS = (
     "docs/development/refuse-each.sh", "docs/development/refuse-each.sh --self-test",
     "bindings/check.sh", "bindings/check.sh --self-test",
     "bindings/sv/check", "bindings/sv/check --self-test",
-    "examples/linux/check", "examples/linux/check --self-test",
     "definitions/check", "definitions/check --self-test",
     "docs/development/speed/measure.py --check", "docs/development/speed/measure.py --self-test",
     "bindings/dist --check", "bindings/dist --self-test",

@@ -1,9 +1,8 @@
-"""What the tests share has to tell apart what differs, and to end where a tool is missing. So has
-examples/comparing.sh, which a check that is a script still has."""
+"""What the tests share has to tell apart what differs, and to end where a tool is missing."""
 
 import pytest
 
-from support import EXAMPLES, IN_CI, instead, missing, run, same, same_bytes, text_of
+from support import IN_CI, instead, missing, run, same, same_bytes, text_of
 
 pytestmark = pytest.mark.planted
 
@@ -54,30 +53,3 @@ def test_a_tool_that_is_missing():
     missing_tool = pytest.fail.Exception if IN_CI else pytest.skip.Exception
     with pytest.raises(missing_tool, match="a tool"):
         missing("a tool")
-
-
-def compared(room, commands):
-    """What the shell does with comparing.sh: its status, and what it prints."""
-    script = f". {EXAMPLES}/comparing.sh; room=$1; {commands}"
-    return run("bash", "-e", "-o", "pipefail", "-c", script, "bash", room)[:2]
-
-
-@pytest.mark.parametrize("other", (*OTHERS, "one\ntwo\n"))
-def test_two_files_by_the_shell(tmp_path, other):
-    """Two that differ in little are two for `agree`, and one that is the same is one."""
-    for name, text in (("one", "one\ntwo\n"), ("other", other)):
-        (tmp_path / name).write_bytes(text.encode())
-    status, said = compared(tmp_path, 'agree NAME "$1/one" "$1/other"\n'
-                            'echo "$compared $differing"; finish 1')
-    is_same = other == "one\ntwo\n"
-    assert status == int(not is_same)
-    assert said.startswith("NAME: as expected\n" if is_same else "NAME: differs\n")
-    assert said.endswith("\n1 0\n" if is_same else "\n1 1\n")
-
-
-@pytest.mark.parametrize("made, failed, words, status", [
-    (3, 0, "3", 0), (3, 0, "3 2", 2), (3, 1, "3", 1), (3, 1, "3 2", 1), (2, 0, "3", 1),
-    (2, 0, "3 2", 1), (4, 0, "3", 1), (0, 0, "0", 0)])
-def test_how_the_shell_finishes(tmp_path, made, failed, words, status):
-    """Where another number of comparisons was made, or one failed, the status is 1."""
-    assert compared(tmp_path, f"compared={made} failed={failed}; finish {words}")[0] == status

@@ -269,7 +269,7 @@ function refuses(report, page, board) {
   report.same("one in RAM", true, page.isBoardImage(elf));
 }
 
-/* The bytes that `rrs board` hands over, as gdb reads them (examples/linux/check), with extension C
+/* The bytes that `rrs board` hands over, as gdb reads them (tests/test_linux.py), with extension C
  * and without. */
 const TREES = [
   [true, 1481, "7c87b9d857ef96105855ee42979895cf05bdfeaa6cc8dddf74196accf166fa90"],
