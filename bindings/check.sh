@@ -464,7 +464,7 @@ all() {
     try "three_words refuses a library of another version" c_refuses
     try "the library for Python" gcc -shared -o "$room/librrs.so" \
         -Wl,--whole-archive "$library" -Wl,--no-whole-archive
-    try "python: its tests" python_passes 61 1339 20
+    try "python: its tests" python_passes 61 1361 20
     try "python: three_words prints what is stored" python_prints
     try "python: replay answers as is stored" answers python replay.py
     try "python: replay refuses a line with more" refuses_lines python replay.py

@@ -149,10 +149,10 @@ class Faces(Counted):
         self.assertEqual(faults, ["illegal instruction", "fetch access fault", "load access fault",
                                   "store access fault", "misaligned address", "environment call",
                                   "breakpoint"])
-        for name in (rrs.row_name(0), rrs.row_name(98), rrs.register_name(32), rrs.register_name(-1),
+        for name in (rrs.row_name(0), rrs.row_name(108), rrs.register_name(32), rrs.register_name(-1),
                      rrs.field_name(17), Fault(8, 0, 0).name):
             self.assertIsNone(name)
-        self.assertEqual((len(rrs.Row), len(rrs.Field), rrs.field_name(0)), (97, 16, "same"))
+        self.assertEqual((len(rrs.Row), len(rrs.Field), rrs.field_name(0)), (107, 16, "same"))
 
     def test_each_function_has_the_arguments_of_the_header(self):
         types = {"void": None, "uint32_t": rrs._u32, "uint64_t": rrs._u64, "size_t": rrs._size,
