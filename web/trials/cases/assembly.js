@@ -198,7 +198,7 @@ function known(report, page, kit) {
   ], (text) => page.isAssembly(text, kit));
   report.same("names that are coloured and that the kit does not have", [],
     [...page.namesOf(kit)].filter((name) => made(page, kit, name).toString().includes("no such")));
-  report.same("how many are coloured", 97 + page.PSEUDO.length, page.namesOf(kit).size);
+  report.same("how many are coloured", 107 + page.PSEUDO.length, page.namesOf(kit).size);
   const coloured = (text) => page.colouredIn(text, kit)
     .map(({ start, end, kind }) => `${text.slice(start, end)} ${kind}`);
   report.cases("the colours of a source", [

@@ -67,7 +67,7 @@ async function echoes(report, page, kit, clock, board) {
   clock.tasks.length = 0;
   report.same("an image", "", open(page, kit, board, ECHO));
   const { kit: { x, pc, csrs } } = board;
-  report.same("at reset", [0x80000000, 0, 0x81ff0000, 231, 0, 0],
+  report.same("at reset", [0x80000000, 0, 0x81ff0000, 2023, 0, 0],
     [pc, x[10], x[11], csrs[page.CSR.profile], csrs[page.CSR.user], board.kit.time]);
   report.same("the tree in RAM", [0xd0, 0x0d, 0xfe, 0xed],
     [...board.kit.bytes.subarray(page.RAM_BYTES - page.TREE_ROOM).subarray(0, 4)]);
@@ -216,7 +216,7 @@ const treeBytes = (page, { kit: { data, ram } }) =>
 
 function compressed(report, page, kit, board) {
   const profile = () => board.kit.csrs[page.CSR.profile];
-  report.same("an executable with compressed code, and its hart", ["", 231, 0x80000002],
+  report.same("an executable with compressed code, and its hart", ["", 2023, 0x80000002],
     [board.open("short", SHORT), profile(), board.kit.pc]);
   const told = [];
   for (let step = 0; step < 3; step++) {
@@ -232,8 +232,8 @@ function compressed(report, page, kit, board) {
   report.same("its end", "A trap went to where mtvec points, 0x00000000, and no memory is there: "
     + "breakpoint at 0x8000000a.", board.ending);
   board.reset();
-  report.same("its hart, booted again", [231, 0x80000002], [profile(), board.kit.pc]);
-  report.same("its code as raw bytes, and the hart", ["", 231, 0x80000000],
+  report.same("its hart, booted again", [2023, 0x80000002], [profile(), board.kit.pc]);
+  report.same("its code as raw bytes, and the hart", ["", 2023, 0x80000000],
     [board.open("raw", SHORT.subarray(SHORT_AT)), profile(), board.kit.pc]);
   report.same("its device tree", page.deviceTree(page.RAM_BYTES, true).length, treeBytes(page, board));
   for (let step = 0; step < 4; step++) board.step();
@@ -243,10 +243,10 @@ function compressed(report, page, kit, board) {
   outside[67] = 0x70;
   const wrong = Uint8Array.from(executableOf(page, SHORT));
   wrong[18] = 0;
-  report.same("its hart behind files that are refused", [true, true, 231],
+  report.same("its hart behind files that are refused", [true, true, 2023],
     [board.open("outside", outside) !== "", board.open("wrong", wrong) !== "", profile()]);
   const { bytes } = kit.assemble("addi a0, a0, 1; lr.w a1, (a0)", page.RAM_START);
-  report.same("without compressed code", ["", 227, page.deviceTree(page.RAM_BYTES, false).length],
+  report.same("without compressed code", ["", 2019, page.deviceTree(page.RAM_BYTES, false).length],
     [board.open("elf", executableOf(page, bytes)), profile(), treeBytes(page, board)]);
   const texts = [0, 4, 2, -4, page.RAM_BYTES].map((at) => board.kit.textAt(at, page.RAM_START + at));
   report.same("its instructions", ["addi x10, x10, 1", "lr.w x11, (x10)", "", "", ""], texts);
